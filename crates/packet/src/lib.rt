@@ -1,0 +1,9 @@
+// From a frame to its key: Ethernet II, one 802.1Q tag, IPv4, TCP and UDP.
+pub mod fault;
+mod ipv4;
+pub mod reader;
+
+pub use fault::FrameFault;
+pub use reader::Key;
+pub use reader::Part;
+pub use reader::Reader;
