@@ -27,6 +27,10 @@ part f from n = take n (drop from f)
 abbrev pub bytes16 : ℕ → List ℕ
 bytes16 x = x / 256 ∷ x % 256 ∷ []
 
+-- the four bytes of a 32-bit number
+abbrev pub bytes32 : ℕ → List ℕ
+bytes32 x = x / 16777216 ∷ x / 65536 % 256 ∷ x / 256 % 256 ∷ x % 256 ∷ []
+
 -- Ethernet II and 802.1Q ----------------------------------------------------------------------------------
 
 -- a tag stands behind the addresses
@@ -87,26 +91,30 @@ fragment n = cond (ltb 0 (word n 6 % 0x2000)) 3 (cond (eqb (word n 6 / 0x2000 % 
 abbrev pub protocol : List ℕ → ℕ
 protocol n = byte n 9
 
--- the transport bytes run from the header's end to the total length; a later fragment has none
+-- a later fragment has no transport part
 abbrev pub has-transport : List ℕ → Bool
 has-transport n = not (eqb (fragment n) 3)
 
+-- the transport bytes run from the header's end to the total length
 abbrev pub transport : List ℕ → List ℕ
-transport n = part n (header-len n) (total-len n - header-len n)
+transport n = cond (has-transport n) (part n (header-len n) (total-len n - header-len n)) []
 
--- TCP's header of 20 bytes, or UDP's of 8, is there
-abbrev pub has-tcp : List ℕ → Bool
-has-tcp n = has-transport n && (eqb (protocol n) 6 && leb 20 (length (transport n)))
+-- TCP and UDP, over the protocol and the transport bytes ---------------------------------------------------------
 
-abbrev pub has-udp : List ℕ → Bool
-has-udp n = has-transport n && (eqb (protocol n) 17 && leb 8 (length (transport n)))
+-- TCP's header of 20 bytes is there, or UDP's of 8
+abbrev pub has-tcp : ℕ → List ℕ → Bool
+has-tcp proto t = eqb proto 6 && leb 20 (length t)
 
--- the two ports; the low 12 bits of TCP's bytes 12 and 13
-abbrev pub port-fields : List ℕ → List ℕ
-port-fields n = cond (has-tcp n || has-udp n) (part (transport n) 0 4) (replicate 4 0)
+abbrev pub has-udp : ℕ → List ℕ → Bool
+has-udp proto t = eqb proto 17 && leb 8 (length t)
 
-abbrev pub flags-field : List ℕ → List ℕ
-flags-field n = cond (has-tcp n) (bytes16 (word (transport n) 12 % 0x1000)) (replicate 2 0)
+-- the low 12 bits of TCP's bytes 12 and 13
+abbrev pub flags-field : ℕ → List ℕ → List ℕ
+flags-field proto t = cond (has-tcp proto t) (bytes16 (word t 12 % 0x1000)) (replicate 2 0)
+
+-- the source port and the destination port
+abbrev pub port-fields : ℕ → List ℕ → List ℕ
+port-fields proto t = cond (has-tcp proto t || has-udp proto t) (part t 0 4) (replicate 4 0)
 
 -- The key ------------------------------------------------------------------------------------------------------
 
@@ -114,15 +122,45 @@ flags-field n = cond (has-tcp n) (bytes16 (word (transport n) 12 % 0x1000)) (rep
 abbrev pub ipv4-fields : List ℕ → List ℕ
 ipv4-fields n =
     joined (λ x. x)
-    ((fragment n ∷ []) ∷ part n 9 1 ∷ part n 1 1 ∷ part n 8 1 ∷ flags-field n ∷ part n 12 4 ∷ part n 16 4 ∷ port-fields n ∷ [])
+    ((fragment n ∷ []) ∷ (protocol n ∷ []) ∷ (byte n 1 ∷ []) ∷ (byte n 8 ∷ []) ∷ flags-field (protocol n) (transport n)
+    ∷ part n 12 4 ∷ part n 16 4 ∷ port-fields (protocol n) (transport n) ∷ [])
 
 -- the same, zero without a network part
 unfoldable pub network-fields : ℕ → List ℕ → List ℕ
 network-fields type n = cond (has-ipv4 type n) (ipv4-fields n) (replicate 18 0)
 
--- the 36 bytes of the key: in-port, destination, source, type, VLAN, and what IPv4, TCP and UDP fill
+-- the first 18 bytes: in-port, destination, source, type, VLAN
+unfoldable pub link-layout : (port : ℕ) (destination source : List ℕ) (type vlan : ℕ) → List ℕ
+link-layout port destination source type vlan =
+    joined (λ x. x) (bytes16 port ∷ destination ∷ source ∷ bytes16 (type-field type) ∷ bytes16 vlan ∷ [])
+
+-- the 36 bytes of the key, one field behind the other
+unfoldable pub key-layout : (port : ℕ) (destination source : List ℕ) (type vlan : ℕ) (n : List ℕ) → List ℕ
+key-layout port destination source type vlan n = link-layout port destination source type vlan ++ network-fields type n
+
+-- the key of a frame that came in at a port
 unfoldable pub key-of : ℕ → List ℕ → List ℕ
-key-of port f =
-    joined (λ x. x)
-    (bytes16 port ∷ part f 0 6 ∷ part f 6 6 ∷ bytes16 (type-field (type-word f)) ∷ bytes16 (vlan-field f)
-    ∷ network-fields (type-word f) (network f) ∷ [])
+key-of port f = key-layout port (part f 0 6) (part f 6 6) (type-word f) (vlan-field f) (network f)
+
+-- The parts ----------------------------------------------------------------------------------------------------
+
+-- a part of the frame: where it begins, and its bytes
+pub record Span : Type 0 where
+  pub offset : ℕ
+  pub bytes : List ℕ
+
+-- the IPv4 header, in network bytes that begin at a place of the frame
+unfoldable pub header-part : (type at : ℕ) (n : List ℕ) → Option Span
+header-part type at n = cond (has-ipv4 type n) (Some (record { offset = at; bytes = part n 0 (header-len n) })) None
+
+-- the transport part
+unfoldable pub transport-part : (type at : ℕ) (n : List ℕ) → Option Span
+transport-part type at n =
+    cond (has-ipv4 type n && has-transport n) (Some (record { offset = at + header-len n; bytes = transport n })) None
+
+-- both, of a frame
+unfoldable pub ipv4-of : List ℕ → Option Span
+ipv4-of f = header-part (type-word f) (network-at f) (network f)
+
+unfoldable pub transport-of : List ℕ → Option Span
+transport-of f = transport-part (type-word f) (network-at f) (network f)

@@ -1,2 +1,4 @@
 pub mod Faults
 pub mod Frames
+pub mod Layout
+pub mod Readings

@@ -4,13 +4,35 @@ ghost use mathlib.Core.Bool.{true, false};
 ghost use Prim.Native.Nat.{_+_, _<_, _≤_};
 ghost use lib.ListN.{length};
 ghost use Rattle.std.specs.Options.{Cases};
-ghost use Rattle.packet.specs.Frames.{word, header-len, total-len, sound-ipv4, fragment};
+ghost use mathlib.Core.List.{_++_};
+ghost use Rattle.packet.specs.Frames.{word, part, bytes16, bytes32, header-len, total-len, sound-ipv4, fragment, flags-field, port-fields, ipv4-fields, network-fields};
+ghost use Rattle.packet.specs.Layout.{fields-bytes};
 
 // The lengths that a sound header gives, in bytes: the header's own, and the packet's.
 #[derive(Clone, Copy)]
 pub struct Lengths {
     pub header: usize,
     pub total: usize,
+}
+
+// What TCP and UDP fill of the key.
+#[derive(Clone, Copy)]
+pub struct TransportFields {
+    pub flags: u16,
+    pub source_port: u16,
+    pub destination_port: u16,
+}
+
+// What IPv4, TCP and UDP fill of the key.
+#[derive(Clone, Copy)]
+pub struct Ipv4Fields {
+    pub fragment: u8,
+    pub protocol: u8,
+    pub tos: u8,
+    pub ttl: u8,
+    pub source: u32,
+    pub destination: u32,
+    pub transport: TransportFields,
 }
 
 // The 16-bit number at `i`.
@@ -50,4 +72,119 @@ pub fn fragment_kind(n: &[u8]) -> u8
     } else {
         0
     }
+}
+
+// The 32-bit number at `i`.
+fn long_at(n: &[u8], i: usize) -> u32
+    requires { ⌜ i + 3 < length (now n) ⌝ }
+    ensures { λ r. ⌜ bytes32 r ≡ part (now (n .entry)) i 4 ⌝ }
+{
+    u32::from_be_bytes([n[i], n[i + 1], n[i + 2], n[i + 3]])
+}
+
+// The ports and the flags of a transport part, zero where its header is cut or of another protocol.
+fn transport_fields(protocol: u8, t: &[u8]) -> TransportFields
+    ensures flags { λ r. ⌜ bytes16 (r .flags) ≡ flags-field protocol (now (t .entry)) ⌝ }
+    ensures ports { λ r. ⌜ bytes16 (r .«source_port») ++ bytes16 (r .«destination_port») ≡ port-fields protocol (now (t .entry)) ⌝ }
+{
+    if protocol == 6 && t.len() >= 20 {
+        TransportFields {
+            flags: word_at(t, 12) % 0x1000,
+            source_port: word_at(t, 0),
+            destination_port: word_at(t, 2),
+        }
+    } else if protocol == 17 && t.len() >= 8 {
+        TransportFields {
+            flags: 0,
+            source_port: word_at(t, 0),
+            destination_port: word_at(t, 2),
+        }
+    } else {
+        TransportFields {
+            flags: 0,
+            source_port: 0,
+            destination_port: 0,
+        }
+    }
+}
+
+// The fields of a packet whose header is sound and gives these lengths.
+fn packet_fields(n: &[u8], len: Lengths) -> Ipv4Fields
+    requires said { ⌜ (len .header ≡ header-len (now n)) × (len .total ≡ total-len (now n)) ⌝ }
+    requires fit { ⌜ (20 ≤ len .header) × (len .header ≤ len .total) × (len .total ≤ length (now n)) ⌝ }
+    ensures { λ r. ⌜ fields-bytes r ≡ ipv4-fields (now (n .entry)) ⌝ }
+{
+    let fragment = fragment_kind(n);
+    let protocol = n[9];
+    let header = len.header;
+    let total = len.total;
+    let transport = if fragment == 3 {
+        &n[0..0]
+    } else {
+        &n[header..total]
+    };
+    Ipv4Fields {
+        fragment,
+        protocol,
+        tos: n[1],
+        ttl: n[8],
+        source: long_at(n, 12),
+        destination: long_at(n, 16),
+        transport: transport_fields(protocol, transport),
+    }
+}
+
+// The fields of a frame with this type word and these network bytes: zero where there is no sound IPv4 header.
+pub fn network_fields(ethertype: u16, n: &[u8]) -> Ipv4Fields
+    ensures { λ r. ⌜ fields-bytes r ≡ network-fields ethertype (now (n .entry)) ⌝ }
+{
+    if ethertype == 0x0800 {
+        if let Some(len) = sound_lengths(n) {
+            return packet_fields(n, len);
+        }
+    }
+    Ipv4Fields {
+        fragment: 0,
+        protocol: 0,
+        tos: 0,
+        ttl: 0,
+        source: 0,
+        destination: 0,
+        transport: TransportFields {
+            flags: 0,
+            source_port: 0,
+            destination_port: 0,
+        },
+    }
+}
+
+// The fields as the key's last 18 bytes.
+pub fn field_bytes(x: Ipv4Fields) -> [u8; 18]
+    ensures { λ r. ⌜ r ≡ fields-bytes x ⌝ }
+{
+    let f = x.transport.flags;
+    let a = x.source;
+    let b = x.destination;
+    let s = x.transport.source_port;
+    let d = x.transport.destination_port;
+    [
+        x.fragment,
+        x.protocol,
+        x.tos,
+        x.ttl,
+        (f / 256) as u8,
+        (f % 256) as u8,
+        (a / 16777216) as u8,
+        (a / 65536 % 256) as u8,
+        (a / 256 % 256) as u8,
+        (a % 256) as u8,
+        (b / 16777216) as u8,
+        (b / 65536 % 256) as u8,
+        (b / 256 % 256) as u8,
+        (b % 256) as u8,
+        (s / 256) as u8,
+        (s % 256) as u8,
+        (d / 256) as u8,
+        (d % 256) as u8,
+    ]
 }

@@ -1,4 +1,5 @@
 // From a frame to its key: Ethernet II, one 802.1Q tag, IPv4, TCP and UDP.
+mod ethernet;
 pub mod fault;
 mod ipv4;
 pub mod reader;

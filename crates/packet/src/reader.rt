@@ -1,5 +1,21 @@
 // A reader over a frame that is lent.
+ghost use mathlib.Core.Path.{_≡_};
+ghost use denote.Ref.{now};
+ghost use Rattle.std.specs.Results.{Cases};
+ghost use Rattle.std.specs.Options.{mapped};
+ghost use Rattle.std.specs.declared.option.Option.the-variants.{Some, None};
+ghost use Rattle.packet.specs.Faults.{refusal-of};
+ghost use Rattle.packet.specs.Frames.{Span, refusal, part, vlan-field, type-word, type-field, network-at, network, key-layout, link-layout, header-part, transport-part};
+ghost use Rattle.packet.specs.Readings.{Opened, span-of};
+use super::ethernet::Header;
+use super::ethernet::take_header;
+use super::ethernet::take_tag;
 use super::fault::FrameFault;
+use super::ipv4::Lengths;
+use super::ipv4::field_bytes;
+use super::ipv4::fragment_kind;
+use super::ipv4::network_fields;
+use super::ipv4::sound_lengths;
 
 // The 36 bytes by which rules tell frames apart.
 pub type Key = [u8; 36];
@@ -11,7 +27,7 @@ pub struct Part<'a> {
     pub bytes: &'a [u8],
 }
 
-// A frame that may be read, its Ethernet header taken apart.
+// A frame that may be read, its Ethernet header taken apart: `network` is what follows the type word, from `offset` on.
 #[derive(Clone, Copy)]
 pub struct Reader<'a> {
     in_port: u16,
@@ -19,33 +35,140 @@ pub struct Reader<'a> {
     source: [u8; 6],
     vlan: u16,
     ethertype: u16,
-    offset: usize,
+    offset: u8,
     network: &'a [u8],
 }
 
 impl<'a> Reader<'a> {
     // Takes a frame that came in at a port, or says why it is not read.
-    pub fn open(in_port: u16, frame: &'a [u8]) -> Result<Reader<'a>, FrameFault> {
+    pub fn open(in_port: u16, frame: &'a [u8]) -> Result<Reader<'a>, FrameFault>
+        ensures { λ r. ⌜ Cases r (λ x. (refusal «in_port» (now (frame .entry)) ≡ None) × Opened «in_port» (now (frame .entry)) (x .«in_port») (x .destination) (x .source) (x .vlan) (x .ethertype) (x .offset) (now (x .network))) (λ e. refusal «in_port» (now (frame .entry)) ≡ Some (refusal-of e)) ⌝ }
+    {
         if in_port < 1 || in_port > 63 {
             return Err(FrameFault::InPort(in_port));
         }
-        let [d0, d1, d2, d3, d4, d5, s0, s1, s2, s3, s4, s5, t0, t1, rest @ ..] = frame else {
+        let Some(header) = take_header(frame) else {
             return Err(FrameFault::Short(frame.len()));
         };
         if frame.len() > 9216 {
             return Err(FrameFault::Long(frame.len()));
         }
-        let destination = [*d0, *d1, *d2, *d3, *d4, *d5];
-        let source = [*s0, *s1, *s2, *s3, *s4, *s5];
-        let ethertype = u16::from_be_bytes([*t0, *t1]);
+        let Header {
+            destination,
+            source,
+            ethertype,
+            rest,
+        } = header;
         if ethertype != 0x8100 {
-            return Ok(Reader { in_port, destination, source, vlan: 0, ethertype, offset: 14, network: rest });
+            return Ok(Reader {
+                in_port,
+                destination,
+                source,
+                vlan: 0,
+                ethertype,
+                offset: 14,
+                network: rest,
+            });
         }
-        let [c0, c1, t0, t1, rest @ ..] = rest else {
+        let Some(tag) = take_tag(rest) else {
             return Err(FrameFault::ShortTagged(frame.len()));
         };
-        let vlan = u16::from_be_bytes([*c0, *c1]) | 0x1000;
-        let ethertype = u16::from_be_bytes([*t0, *t1]);
-        Ok(Reader { in_port, destination, source, vlan, ethertype, offset: 18, network: rest })
+        Ok(Reader {
+            in_port,
+            destination,
+            source,
+            vlan: tag.tci | 0x1000,
+            ethertype: tag.ethertype,
+            offset: 18,
+            network: tag.rest,
+        })
+    }
+
+    // The frame's key.
+    pub fn key(&self) -> Key
+        ensures { λ r. ⌜ r ≡ key-layout (now (self .entry) .«in_port») (now (self .entry) .destination) (now (self .entry) .source) (now (self .entry) .ethertype) (now (self .entry) .vlan) (now (now (self .entry) .network)) ⌝ }
+    {
+        let fields = network_fields(self.ethertype, self.network);
+        let mut key = [0u8; 36];
+        key[0..18].copy_from_slice(&self.link_bytes());
+        key[18..36].copy_from_slice(&field_bytes(fields));
+        key
+    }
+
+    // The IPv4 header, where there is a sound one.
+    pub fn ipv4(&self) -> Option<Part<'a>>
+        ensures { λ r. ⌜ mapped span-of r ≡ header-part (now (self .entry) .ethertype) (now (self .entry) .offset) (now (now (self .entry) .network)) ⌝ }
+    {
+        if self.ethertype != 0x0800 {
+            return None;
+        }
+        let n = self.network;
+        let Some(Lengths { header, .. }) = sound_lengths(n) else {
+            return None;
+        };
+        let bytes = &n[0..header];
+        let offset = usize::from(self.offset);
+        Some(Part { offset, bytes })
+    }
+
+    // The transport part of an IPv4 packet that is no later fragment: from the header's end to the total length.
+    pub fn transport(&self) -> Option<Part<'a>>
+        ensures { λ r. ⌜ mapped span-of r ≡ transport-part (now (self .entry) .ethertype) (now (self .entry) .offset) (now (now (self .entry) .network)) ⌝ }
+    {
+        if self.ethertype != 0x0800 {
+            return None;
+        }
+        let n = self.network;
+        let Some(Lengths { header, total }) = sound_lengths(n) else {
+            return None;
+        };
+        if fragment_kind(n) == 3 {
+            return None;
+        }
+        let bytes = &n[header..total];
+        let offset = usize::from(self.offset) + header;
+        Some(Part { offset, bytes })
+    }
+
+    // The key's first 18 bytes: what the port and the Ethernet header fill.
+    fn link_bytes(&self) -> [u8; 18]
+        ensures { λ r. ⌜ r ≡ link-layout (now (self .entry) .«in_port») (now (self .entry) .destination) (now (self .entry) .source) (now (self .entry) .ethertype) (now (self .entry) .vlan) ⌝ }
+    {
+        let p = self.in_port;
+        let d = self.destination;
+        let s = self.source;
+        let t = key_type(self.ethertype);
+        let v = self.vlan;
+        [
+            (p / 256) as u8,
+            (p % 256) as u8,
+            d[0],
+            d[1],
+            d[2],
+            d[3],
+            d[4],
+            d[5],
+            s[0],
+            s[1],
+            s[2],
+            s[3],
+            s[4],
+            s[5],
+            (t / 256) as u8,
+            (t % 256) as u8,
+            (v / 256) as u8,
+            (v % 256) as u8,
+        ]
+    }
+}
+
+// The key's type: a word below 0x0600 is a length, and no type.
+fn key_type(ethertype: u16) -> u16
+    ensures { λ r. ⌜ r ≡ type-field ethertype ⌝ }
+{
+    if ethertype < 0x0600 {
+        0x05ff
+    } else {
+        ethertype
     }
 }
