@@ -8,10 +8,10 @@ use Rattle.packet.specs.Frames.{byte, part, bytes16, bytes32, fragment, protoc
 use Rattle.packet.specs.Layout.{fields-bytes}
 
 -- eight fields, laid out one behind the other
-abbrev lay : (a b c d : ℕ) (e f g h : List ℕ) → List ℕ
+abbrev pub lay : (a b c d : ℕ) (e f g h : List ℕ) → List ℕ
 lay a b c d e f g h = joined (λ x. x) ((a ∷ []) ∷ (b ∷ []) ∷ (c ∷ []) ∷ (d ∷ []) ∷ e ∷ f ∷ g ∷ h ∷ [])
 
-lay-same : (a b c d : ℕ) (e f g h : List ℕ) (a′ b′ c′ d′ : ℕ) (e′ f′ g′ h′ : List ℕ) → a ≡ a′ → b ≡ b′ → c ≡ c′ → d ≡ d′ → e ≡ e′ → f ≡ f′ → g ≡ g′ → h ≡ h′ → lay a b c d e f g h ≡ lay a′ b′ c′ d′ e′ f′ g′ h′
+pub lay-same : (a b c d : ℕ) (e f g h : List ℕ) (a′ b′ c′ d′ : ℕ) (e′ f′ g′ h′ : List ℕ) → a ≡ a′ → b ≡ b′ → c ≡ c′ → d ≡ d′ → e ≡ e′ → f ≡ f′ → g ≡ g′ → h ≡ h′ → lay a b c d e f g h ≡ lay a′ b′ c′ d′ e′ f′ g′ h′
 lay-same a b c d e f g h a′ b′ c′ d′ e′ f′ g′ h′ p q r s t u v w = cc
 
 -- what the code reads of a packet, field by field

@@ -4,3 +4,5 @@ pub mod Refusals
 pub mod Opening
 pub mod Keys
 pub mod Parts
+pub mod Padding
+pub mod Inside

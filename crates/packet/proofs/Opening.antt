@@ -7,7 +7,7 @@ use lib.Bits.{bitOr}
 use lib.ListN.{drop}
 use Rattle.std.proofs.shelf.Lists.{getD-drop, drop-drop}
 use Rattle.std.proofs.shelf.Tests.{cond-true, cond-false, eq-eqb, ne-eqb}
-use Rattle.packet.specs.Frames.{part, byte, word, tagged}
+use Rattle.packet.specs.Frames.{part, byte, word, tagged, key-layout, key-of, header-part, ipv4-of, transport-part, transport-of}
 use Rattle.packet.specs.Readings.{Opened}
 
 -- the word at a place of what is left behind another place
@@ -39,3 +39,23 @@ opened-tagged p f d s t c u n m hd hs ht hn h hc hu hm =
       offset-is = sym (cond-true (tagged f) 18 14 e);
       network-is = hm ∙ ap (drop 4) hn ∙ drop-drop 4 14 f ∙ ap (λ i. drop i f) (sym (cond-true (tagged f) 18 14 e));
     }
+
+-- a reader that was opened on a frame gives the frame's key and parts
+pub key-opened : (p : ℕ) (f : List ℕ) (i : ℕ) (d s : List ℕ) (v t o : ℕ) (n : List ℕ) → Opened p f i d s v t o n → key-layout i d s t v n ≡ key-of p f
+unfolding key-of
+key-opened p f i d s v t o n r =
+    let a = r .port-is in
+    let b = r .destination-is in
+    let e = r .source-is in
+    let g = r .vlan-is in
+    let h = r .type-is in
+    let m = r .network-is in
+    cc
+
+pub header-opened : (p : ℕ) (f : List ℕ) (i : ℕ) (d s : List ℕ) (v t o : ℕ) (n : List ℕ) → Opened p f i d s v t o n → header-part t o n ≡ ipv4-of f
+unfolding ipv4-of
+header-opened p f i d s v t o n r = let a = r .type-is in let b = r .offset-is in let e = r .network-is in cc
+
+pub transport-opened : (p : ℕ) (f : List ℕ) (i : ℕ) (d s : List ℕ) (v t o : ℕ) (n : List ℕ) → Opened p f i d s v t o n → transport-part t o n ≡ transport-of f
+unfolding transport-of
+transport-opened p f i d s v t o n r = let a = r .type-is in let b = r .offset-is in let e = r .network-is in cc

@@ -33,3 +33,22 @@ admitted-untagged p f a b l m t = grind (arith, tells)
 pub admitted-tagged : (p : ℕ) (f : List ℕ) → 1 ≤ p → p ≤ 63 → 18 ≤ length f → length f ≤ 9216 → refusal p f ≡ None
 unfolding refusal
 admitted-tagged p f a b l m = grind (arith, tells)
+
+-- what is known of a frame that is read
+pub record Admitted (p : ℕ) (f : List ℕ) : Type 0 where
+  pub port-low : 1 ≤ p
+  pub port-high : p ≤ 63
+  pub length-low : 14 ≤ length f
+  pub length-high : length f ≤ 9216
+  pub tag-whole : word f 12 ≡ 0x8100 → 18 ≤ length f
+
+pub admitted : (p : ℕ) (f : List ℕ) → refusal p f ≡ None → Admitted p f
+unfolding refusal
+admitted p f h =
+    record {
+      port-low = grind (arith, tells);
+      port-high = grind (arith, tells);
+      length-low = grind (arith, tells);
+      length-high = grind (arith, tells);
+      tag-whole = λ t. grind (arith, tells);
+    }

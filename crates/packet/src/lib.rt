@@ -8,3 +8,6 @@ pub use fault::FrameFault;
 pub use reader::Key;
 pub use reader::Part;
 pub use reader::Reader;
+pub use reader::Reading;
+pub use reader::read;
+pub use reader::read_key;

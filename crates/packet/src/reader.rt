@@ -5,7 +5,8 @@ ghost use Rattle.std.specs.Results.{Cases};
 ghost use Rattle.std.specs.Options.{mapped};
 ghost use Rattle.std.specs.declared.option.Option.the-variants.{Some, None};
 ghost use Rattle.packet.specs.Faults.{refusal-of};
-ghost use Rattle.packet.specs.Frames.{Span, refusal, part, vlan-field, type-word, type-field, network-at, network, key-layout, link-layout, header-part, transport-part};
+ghost use Rattle.packet.specs.Frames.{Span, refusal, part, vlan-field, type-word, type-field, network-at, network, key-layout, link-layout, key-of, ipv4-of, transport-of, header-part, transport-part};
+ghost use Rattle.packet.specs.Laws.{Padding-never-matters, In-port-stands-first, Parts-lie-inside};
 ghost use Rattle.packet.specs.Readings.{Opened, span-of};
 use super::ethernet::Header;
 use super::ethernet::take_header;
@@ -160,6 +161,37 @@ impl<'a> Reader<'a> {
             (v % 256) as u8,
         ]
     }
+}
+
+// What a frame says: its key, and its parts where they are present.
+#[derive(Clone, Copy)]
+pub struct Reading<'a> {
+    pub key: Key,
+    pub ipv4: Option<Part<'a>>,
+    pub transport: Option<Part<'a>>,
+}
+
+// Reads a frame whole, or says why it is not read.
+pub fn read<'a>(in_port: u16, frame: &'a [u8]) -> Result<Reading<'a>, FrameFault>
+    ensures value { λ r. ⌜ Cases r (λ x. (refusal «in_port» (now (frame .entry)) ≡ None) × (x .key ≡ key-of «in_port» (now (frame .entry))) × (mapped span-of (x .ipv4) ≡ ipv4-of (now (frame .entry))) × (mapped span-of (x .transport) ≡ transport-of (now (frame .entry)))) (λ e. refusal «in_port» (now (frame .entry)) ≡ Some (refusal-of e)) ⌝ }
+    ensures padding { λ _. ⌜ Padding-never-matters ⌝ }
+    ensures port { λ _. ⌜ In-port-stands-first ⌝ }
+    ensures inside { λ _. ⌜ Parts-lie-inside ⌝ }
+{
+    let reader = Reader::open(in_port, frame)?;
+    Ok(Reading {
+        key: reader.key(),
+        ipv4: reader.ipv4(),
+        transport: reader.transport(),
+    })
+}
+
+// Reads the key alone, or says why the frame is not read.
+pub fn read_key(in_port: u16, frame: &[u8]) -> Result<Key, FrameFault>
+    ensures { λ r. ⌜ Cases r (λ k. (refusal «in_port» (now (frame .entry)) ≡ None) × (k ≡ key-of «in_port» (now (frame .entry)))) (λ e. refusal «in_port» (now (frame .entry)) ≡ Some (refusal-of e)) ⌝ }
+{
+    let reader = Reader::open(in_port, frame)?;
+    Ok(reader.key())
 }
 
 // The key's type: a word below 0x0600 is a length, and no type.
