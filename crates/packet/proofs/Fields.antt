@@ -27,7 +27,6 @@ pub record Read (x : Ipv4Fields) (n t : List ℕ) : Type 0 where
   pub transport-is : t ≡ transport n
 
 pub fields-read : (x : Ipv4Fields) (n t : List ℕ) → Read x n t → fields-bytes x ≡ ipv4-fields n
-unfolding fields-bytes
 fields-read x n t r =
     lay-same _ _ _ _ _ _ _ _ _ _ _ _ _ _ _ _ (r .fragment-is) (r .protocol-is) (r .tos-is) (r .ttl-is) (r .flags-is ∙ ap (flags-field (protocol n)) (r .transport-is)) (r .source-is) (r .destination-is)
     (r .ports-is ∙ ap (port-fields (protocol n)) (r .transport-is))

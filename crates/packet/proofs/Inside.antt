@@ -17,7 +17,7 @@ use Rattle.packet.proofs.Padding.{Lengths-fit, sound-fits}
 use Rattle.packet.proofs.Parts.{no-header, no-transport}
 
 pub in-port-stands-first : In-port-stands-first
-unfolding key-of key-layout link-layout
+unfolding key-of
 in-port-stands-first port other f = (refl, refl)
 
 -- a part of the network bytes, as a part of the frame
@@ -39,7 +39,7 @@ abbrev header-of : List ℕ → Span
 header-of f = record { offset = network-at f; bytes = part (network f) 0 (header-len (network f)) }
 
 behind : (f : List ℕ) → has-ipv4 (type-word f) (network f) ≡ true → Lengths-fit (network f) → (has-transport (network f) ≡ true) ⊎ (has-transport (network f) ≡ false) → Behind f (header-of f) (transport-of f)
-unfolding transport-of transport-part
+unfolding transport-of
 behind f h l e =
     let n = network f in
     let long : length (part n 0 (header-len n)) ≡ header-len n = length-take-le (header-len n) n (omega (arith, l .total, l .there)) in
@@ -53,7 +53,7 @@ abbrev Both : List ℕ → Option Span → Type 0
 Both f o = Cases o (transport-of f ≡ None) (λ h. Inside f h × Behind f h (transport-of f))
 
 pub parts-lie-inside : Parts-lie-inside
-unfolding ipv4-of transport-of header-part
+unfolding ipv4-of transport-of
 parts-lie-inside f =
     let n = network f in
     ⊎-elim

@@ -15,7 +15,6 @@ address : (d : List ℕ) → length d ≡ 6 → map (byte d) (counting 0 6) ≡ 
 address d h = part-bytes 6 0 d (omega arith) ∙ take-all 6 d (omega arith)
 
 pub link-laid : (p t v u : ℕ) (d s : List ℕ) → length d ≡ 6 → length s ≡ 6 → u ≡ type-field t → p / 256 ∷ p % 256 ∷ (map (byte d) (counting 0 6) ++ (map (byte s) (counting 0 6) ++ (u / 256 ∷ u % 256 ∷ v / 256 ∷ v % 256 ∷ []))) ≡ link-layout p d s t v
-unfolding link-layout
 link-laid p t v u d s hd hs hu =
     ap₂ (λ x y. p / 256 ∷ p % 256 ∷ (x ++ (y ++ (u / 256 ∷ u % 256 ∷ v / 256 ∷ v % 256 ∷ [])))) (address d hd) (address s hs)
     ∙ ap (λ w. p / 256 ∷ p % 256 ∷ (d ++ (s ++ (w / 256 ∷ w % 256 ∷ v / 256 ∷ v % 256 ∷ [])))) hu

@@ -88,14 +88,12 @@ pub both-ipv4 : (type : ℕ) (n z : List ℕ) → has-ipv4 type n ≡ true → h
 both-ipv4 type n z h = and-from _ _ (and-parts _ _ h .0) (same-packet n z (and-parts _ _ h .1) .sound)
 
 pub fields-padded : (type : ℕ) (n z : List ℕ) → Ended type n → network-fields type (n ++ z) ≡ network-fields type n
-unfolding network-fields
 fields-padded type n z e =
     ⊎-elim
     (λ h. cond-true (has-ipv4 type (n ++ z)) _ _ (both-ipv4 type n z h) ∙ same-packet n z (and-parts _ _ h .1) .fields ∙ sym (cond-true (has-ipv4 type n) _ _ h))
     (λ u. cond-false (has-ipv4 type (n ++ z)) _ _ (other-type type (n ++ z) u) ∙ sym (cond-false (has-ipv4 type n) _ _ (other-type type n u))) e
 
 pub header-padded : (type at : ℕ) (n z : List ℕ) → Ended type n → header-part type at (n ++ z) ≡ header-part type at n
-unfolding header-part
 header-padded type at n z e =
     ⊎-elim
     (λ h. let p = same-packet n z (and-parts _ _ h .1) in let l = sound-fits n (and-parts _ _ h .1) in
@@ -105,7 +103,6 @@ header-padded type at n z e =
     (λ u. sym (no-header type at (n ++ z) (other-type type (n ++ z) u)) ∙ no-header type at n (other-type type n u)) e
 
 pub transport-padded : (type at : ℕ) (n z : List ℕ) → Ended type n → transport-part type at (n ++ z) ≡ transport-part type at n
-unfolding transport-part
 transport-padded type at n z e =
     ⊎-elim
     (λ h. let p = same-packet n z (and-parts _ _ h .1) in
@@ -159,7 +156,6 @@ same-link p f z a =
     ⊎-elim (link-tagged p f z a e) (link-untagged p f z a e) (cases-bool (tagged f))
 
 same-layout : (p : ℕ) (d s d′ s′ : List ℕ) (t v t′ v′ : ℕ) (n n′ : List ℕ) → d ≡ d′ → s ≡ s′ → t ≡ t′ → v ≡ v′ → network-fields t′ n ≡ network-fields t′ n′ → key-layout p d s t v n ≡ key-layout p d′ s′ t′ v′ n′
-unfolding key-layout
 same-layout p d s d′ s′ t v t′ v′ n n′ hd hs ht hv hn = cc
 
 pub padding-never-matters : Padding-never-matters
@@ -172,7 +168,7 @@ padding-never-matters p f z r e m =
     record {
       refusals = s .admits m ∙ sym r;
       keys =
-          same-layout p _ _ _ _ _ _ _ _ _ _ d o (s .types) (s .vlans) (ap (network-fields (type-word f)) (s .networks) ∙ fields-padded (type-word f) (network f) z e);
+          same-layout p _ _ _ _ _ _ _ _ (network (f ++ z)) (network f) d o (s .types) (s .vlans) (ap (network-fields (type-word f)) (s .networks) ∙ fields-padded (type-word f) (network f) z e);
       headers =
           ap₂ (λ t i. header-part t i (network (f ++ z))) (s .types) (s .begins) ∙ ap (header-part (type-word f) (network-at f)) (s .networks) ∙ header-padded (type-word f) (network-at f) (network f) z e;
       transports =

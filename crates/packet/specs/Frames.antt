@@ -58,7 +58,7 @@ abbrev pub network : List ℕ → List ℕ
 network f = drop (network-at f) f
 
 -- the first reason for which a frame at an in-port is not read
-unfoldable pub refusal : ℕ → List ℕ → Option Refusal
+abbrev pub refusal : ℕ → List ℕ → Option Refusal
 refusal port f =
     cond (ltb port 1 || ltb 63 port) (Some (record { number = 1; detail = port }))
     (cond (ltb (length f) 14) (Some (record { number = 2; detail = length f }))
@@ -126,16 +126,16 @@ ipv4-fields n =
     ∷ part n 12 4 ∷ part n 16 4 ∷ port-fields (protocol n) (transport n) ∷ [])
 
 -- the same, zero without a network part
-unfoldable pub network-fields : ℕ → List ℕ → List ℕ
+abbrev pub network-fields : ℕ → List ℕ → List ℕ
 network-fields type n = cond (has-ipv4 type n) (ipv4-fields n) (replicate 18 0)
 
 -- the first 18 bytes: in-port, destination, source, type, VLAN
-unfoldable pub link-layout : (port : ℕ) (destination source : List ℕ) (type vlan : ℕ) → List ℕ
+abbrev pub link-layout : (port : ℕ) (destination source : List ℕ) (type vlan : ℕ) → List ℕ
 link-layout port destination source type vlan =
     joined (λ x. x) (bytes16 port ∷ destination ∷ source ∷ bytes16 (type-field type) ∷ bytes16 vlan ∷ [])
 
 -- the 36 bytes of the key, one field behind the other
-unfoldable pub key-layout : (port : ℕ) (destination source : List ℕ) (type vlan : ℕ) (n : List ℕ) → List ℕ
+abbrev pub key-layout : (port : ℕ) (destination source : List ℕ) (type vlan : ℕ) (n : List ℕ) → List ℕ
 key-layout port destination source type vlan n = link-layout port destination source type vlan ++ network-fields type n
 
 -- the key of a frame that came in at a port
@@ -150,11 +150,11 @@ pub record Span : Type 0 where
   pub bytes : List ℕ
 
 -- the IPv4 header, in network bytes that begin at a place of the frame
-unfoldable pub header-part : (type at : ℕ) (n : List ℕ) → Option Span
+abbrev pub header-part : (type at : ℕ) (n : List ℕ) → Option Span
 header-part type at n = cond (has-ipv4 type n) (Some (record { offset = at; bytes = part n 0 (header-len n) })) None
 
 -- the transport part
-unfoldable pub transport-part : (type at : ℕ) (n : List ℕ) → Option Span
+abbrev pub transport-part : (type at : ℕ) (n : List ℕ) → Option Span
 transport-part type at n =
     cond (has-ipv4 type n && has-transport n) (Some (record { offset = at + header-len n; bytes = transport n })) None
 

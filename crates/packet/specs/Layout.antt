@@ -6,7 +6,7 @@ use Rattle.packet.specs.declared.ipv4.Ipv4Fields.{Ipv4Fields}
 use Rattle.packet.specs.Frames.{bytes16, bytes32}
 
 -- the last 18 bytes of the key
-unfoldable pub fields-bytes : Ipv4Fields → List ℕ
+abbrev pub fields-bytes : Ipv4Fields → List ℕ
 fields-bytes x =
     joined (λ x. x)
     ((x .fragment ∷ []) ∷ (x .protocol ∷ []) ∷ (x .tos ∷ []) ∷ (x .ttl ∷ []) ∷ bytes16 (x .transport .flags)

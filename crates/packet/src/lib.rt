@@ -2,9 +2,11 @@
 mod ethernet;
 pub mod fault;
 mod ipv4;
+pub mod laws;
 pub mod reader;
 
 pub use fault::FrameFault;
+pub use laws::reading_laws;
 pub use reader::Key;
 pub use reader::Part;
 pub use reader::Reader;

@@ -1,13 +1,14 @@
 // A reader over a frame that is lent.
 ghost use mathlib.Core.Path.{_≡_};
+ghost use mathlib.Core.List.{_++_};
 ghost use denote.Ref.{now};
+ghost use lib.Bits.{bitOr};
 ghost use Rattle.std.specs.Results.{Cases};
 ghost use Rattle.std.specs.Options.{mapped};
 ghost use Rattle.std.specs.declared.option.Option.the-variants.{Some, None};
 ghost use Rattle.packet.specs.Faults.{refusal-of};
 ghost use Rattle.packet.specs.Frames.{Span, refusal, part, vlan-field, type-word, type-field, network-at, network, key-layout, link-layout, key-of, ipv4-of, transport-of, header-part, transport-part};
-ghost use Rattle.packet.specs.Laws.{Padding-never-matters, In-port-stands-first, Parts-lie-inside};
-ghost use Rattle.packet.specs.Readings.{Opened, span-of};
+ghost use Rattle.packet.specs.Readings.{Opened, Says, span-of};
 use super::ethernet::Header;
 use super::ethernet::take_header;
 use super::ethernet::take_tag;
@@ -17,6 +18,7 @@ use super::ipv4::field_bytes;
 use super::ipv4::fragment_kind;
 use super::ipv4::network_fields;
 use super::ipv4::sound_lengths;
+use super::ipv4::word_at;
 
 // The 36 bytes by which rules tell frames apart.
 pub type Key = [u8; 36];
@@ -43,25 +45,26 @@ pub struct Reader<'a> {
 impl<'a> Reader<'a> {
     // Takes a frame that came in at a port, or says why it is not read.
     pub fn open(in_port: u16, frame: &'a [u8]) -> Result<Reader<'a>, FrameFault>
-        ensures { λ r. ⌜ Cases r (λ x. (refusal «in_port» (now (frame .entry)) ≡ None) × Opened «in_port» (now (frame .entry)) (x .«in_port») (x .destination) (x .source) (x .vlan) (x .ethertype) (x .offset) (now (x .network))) (λ e. refusal «in_port» (now (frame .entry)) ≡ Some (refusal-of e)) ⌝ }
+        ensures { λ r. ⌜ Cases r (λ x. (refusal «in_port» (now (frame .entry)) ≡ None) × Opened «in_port» (now (frame .entry)) (x .«in_port») (x .destination) (x .source) (x .vlan) (x .ethertype) (x .offset) (now (x .network)) × Says «in_port» (now (frame .entry)) (x .«in_port») (x .destination) (x .source) (x .vlan) (x .ethertype) (x .offset) (now (x .network))) (λ e. refusal «in_port» (now (frame .entry)) ≡ Some (refusal-of e)) ⌝ }
     {
-        if in_port < 1 || in_port > 63 {
-            return Err(FrameFault::InPort(in_port));
-        }
-        let Some(header) = take_header(frame) else {
-            return Err(FrameFault::Short(frame.len()));
-        };
-        if frame.len() > 9216 {
-            return Err(FrameFault::Long(frame.len()));
-        }
+        admit(in_port, frame)?;
+        Ok(Reader::over(in_port, frame))
+    }
+
+    // Takes apart a frame that may be read.
+    fn over(in_port: u16, frame: &'a [u8]) -> Reader<'a>
+        requires { ⌜ refusal «in_port» (now frame) ≡ None ⌝ }
+        ensures opened { λ x. ⌜ Opened «in_port» (now (frame .entry)) (x .«in_port») (x .destination) (x .source) (x .vlan) (x .ethertype) (x .offset) (now (x .network)) ⌝ }
+        ensures says { λ x. ⌜ Says «in_port» (now (frame .entry)) (x .«in_port») (x .destination) (x .source) (x .vlan) (x .ethertype) (x .offset) (now (x .network)) ⌝ }
+    {
         let Header {
             destination,
             source,
             ethertype,
             rest,
-        } = header;
+        } = take_header(frame);
         if ethertype != 0x8100 {
-            return Ok(Reader {
+            return Reader {
                 in_port,
                 destination,
                 source,
@@ -69,31 +72,28 @@ impl<'a> Reader<'a> {
                 ethertype,
                 offset: 14,
                 network: rest,
-            });
+            };
         }
-        let Some(tag) = take_tag(rest) else {
-            return Err(FrameFault::ShortTagged(frame.len()));
-        };
-        Ok(Reader {
+        let tag = take_tag(rest);
+        Reader {
             in_port,
             destination,
             source,
-            vlan: tag.tci | 0x1000,
+            vlan: key_vlan(tag.tci),
             ethertype: tag.ethertype,
             offset: 18,
             network: tag.rest,
-        })
+        }
     }
 
     // The frame's key.
     pub fn key(&self) -> Key
         ensures { λ r. ⌜ r ≡ key-layout (now (self .entry) .«in_port») (now (self .entry) .destination) (now (self .entry) .source) (now (self .entry) .ethertype) (now (self .entry) .vlan) (now (now (self .entry) .network)) ⌝ }
     {
-        let fields = network_fields(self.ethertype, self.network);
-        let mut key = [0u8; 36];
-        key[0..18].copy_from_slice(&self.link_bytes());
-        key[18..36].copy_from_slice(&field_bytes(fields));
-        key
+        join(
+            self.link_bytes(),
+            field_bytes(network_fields(self.ethertype, self.network)),
+        )
     }
 
     // The IPv4 header, where there is a sound one.
@@ -163,6 +163,35 @@ impl<'a> Reader<'a> {
     }
 }
 
+// The two halves of a key.
+fn join(front: [u8; 18], back: [u8; 18]) -> Key
+    ensures { λ r. ⌜ r ≡ front ++ back ⌝ }
+{
+    let mut key = [0u8; 36];
+    key[0..18].copy_from_slice(&front);
+    key[18..36].copy_from_slice(&back);
+    key
+}
+
+// Whether a frame that came in at a port is read.
+fn admit(in_port: u16, frame: &[u8]) -> Result<(), FrameFault>
+    ensures { λ r. ⌜ Cases r (λ _. refusal «in_port» (now (frame .entry)) ≡ None) (λ e. refusal «in_port» (now (frame .entry)) ≡ Some (refusal-of e)) ⌝ }
+{
+    if in_port < 1 || in_port > 63 {
+        return Err(FrameFault::InPort(in_port));
+    }
+    if frame.len() < 14 {
+        return Err(FrameFault::Short(frame.len()));
+    }
+    if frame.len() > 9216 {
+        return Err(FrameFault::Long(frame.len()));
+    }
+    if word_at(frame, 12) == 0x8100 && frame.len() < 18 {
+        return Err(FrameFault::ShortTagged(frame.len()));
+    }
+    Ok(())
+}
+
 // What a frame says: its key, and its parts where they are present.
 #[derive(Clone, Copy)]
 pub struct Reading<'a> {
@@ -173,10 +202,7 @@ pub struct Reading<'a> {
 
 // Reads a frame whole, or says why it is not read.
 pub fn read<'a>(in_port: u16, frame: &'a [u8]) -> Result<Reading<'a>, FrameFault>
-    ensures value { λ r. ⌜ Cases r (λ x. (refusal «in_port» (now (frame .entry)) ≡ None) × (x .key ≡ key-of «in_port» (now (frame .entry))) × (mapped span-of (x .ipv4) ≡ ipv4-of (now (frame .entry))) × (mapped span-of (x .transport) ≡ transport-of (now (frame .entry)))) (λ e. refusal «in_port» (now (frame .entry)) ≡ Some (refusal-of e)) ⌝ }
-    ensures padding { λ _. ⌜ Padding-never-matters ⌝ }
-    ensures port { λ _. ⌜ In-port-stands-first ⌝ }
-    ensures inside { λ _. ⌜ Parts-lie-inside ⌝ }
+    ensures { λ r. ⌜ Cases r (λ x. (refusal «in_port» (now (frame .entry)) ≡ None) × (x .key ≡ key-of «in_port» (now (frame .entry))) × (mapped span-of (x .ipv4) ≡ ipv4-of (now (frame .entry))) × (mapped span-of (x .transport) ≡ transport-of (now (frame .entry)))) (λ e. refusal «in_port» (now (frame .entry)) ≡ Some (refusal-of e)) ⌝ }
 {
     let reader = Reader::open(in_port, frame)?;
     Ok(Reading {
@@ -192,6 +218,13 @@ pub fn read_key(in_port: u16, frame: &[u8]) -> Result<Key, FrameFault>
 {
     let reader = Reader::open(in_port, frame)?;
     Ok(reader.key())
+}
+
+// The key's VLAN: a tag's control information, with bit 12 set.
+fn key_vlan(tci: u16) -> u16
+    ensures { λ r. ⌜ r ≡ bitOr tci 0x1000 ⌝ }
+{
+    tci | 0x1000
 }
 
 // The key's type: a word below 0x0600 is a length, and no type.
