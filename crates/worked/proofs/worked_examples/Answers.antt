@@ -1,0 +1,5 @@
+use Rattle.worked.proofs.Reading.{reading-examples}
+use Rattle.worked.proofs.worked_examples.Needs as need
+
+pub returns : need.returns
+returns c = record { reading = reading-examples }
