@@ -1,3 +1,4 @@
 pub mod BitLaws
 pub mod MaskLaws
 pub mod Overlaps
+pub mod Places

@@ -53,15 +53,16 @@ Within a b = masked b a ≡ a
 unfoldable pub inside : List ℕ → List ℕ → Bool
 inside a b = sameBytes (masked b a) a
 
+-- a place that is counted from one element further on
+abbrev pub one-more : Option ℕ → Option ℕ
+one-more None = None
+one-more (Some i) = Some (i + 1)
+
 -- the first place at which two lists differ
 unfoldable pub first-difference : List ℕ → List ℕ → Option ℕ
 first-difference [] ys = None
 first-difference (x ∷ xs) [] = None
 first-difference (x ∷ xs) (y ∷ ys) = cond (eqb x y) (one-more (first-difference xs ys)) (Some 0)
-  where
-    one-more : Option ℕ → Option ℕ
-    one-more None = None
-    one-more (Some i) = Some (i + 1)
 
 -- the first byte of the value that has a bit outside the mask
 unfoldable pub first-outside : List ℕ → List ℕ → Option ℕ
