@@ -1,4 +1,4 @@
 pub mod BitLaws
 pub mod MaskLaws
-pub mod Overlaps
+pub mod OverlapLaws
 pub mod Places

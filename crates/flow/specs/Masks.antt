@@ -1,5 +1,5 @@
 -- Keys, masks and values, as lists of bytes: a key is 36 bytes, and a mask names some of its bits.
--- The laws of these definitions are in proofs/MaskLaws.antt and proofs/Overlaps.antt: use them, and open no definition.
+-- The laws of these definitions are in proofs/MaskLaws.antt and proofs/OverlapLaws.antt: use them, and open no definition.
 use mathlib.Core.Path.{_≡_}
 use mathlib.Core.Bool.{Bool, cond}
 use mathlib.Core.List.{List, [], _∷_}

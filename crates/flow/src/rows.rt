@@ -1,6 +1,7 @@
 // Masks, values and keys as plain rows of 36 bytes.
 ghost use mathlib.Core.Path.{_≡_};
-ghost use Rattle.flow.specs.Masks.{covered, agreeing, inside, first-outside};
+ghost use Rattle.std.specs.Orderings.{Decides};
+ghost use Rattle.flow.specs.Masks.{covered, agreeing, inside, first-outside, masked, union, empty-mask, overlapping, Overlap, Within};
 
 // Whether the mask and the value cover the key: its bits under the mask are the value.
 pub fn covers(mask: &[u8; 36], value: &[u8; 36], key: &[u8; 36]) -> bool
@@ -43,4 +44,49 @@ pub fn first_outside(mask: &[u8; 36], value: &[u8; 36]) -> Option<usize>
         }
     }
     None
+}
+
+// The key's bits under the mask.
+pub fn masked(mask: &[u8; 36], key: &[u8; 36]) -> [u8; 36]
+    ensures { λ r. ⌜ r ≡ masked (now (mask .entry)) (now (key .entry)) ⌝ }
+{
+    let mut bits = *key;
+    for i in 0..36 {
+        bits[i] &= mask[i];
+    }
+    bits
+}
+
+// Adds the mask's bits to `into`.
+pub fn union_into(into: &mut [u8; 36], mask: &[u8; 36])
+    ensures { λ _. ⌜ now (into .exit) ≡ union (now (into .entry)) (now (mask .entry)) ⌝ }
+{
+    for i in 0..36 {
+        into[i] |= mask[i];
+    }
+}
+
+// The bits of either mask.
+pub fn union(a: &[u8; 36], b: &[u8; 36]) -> [u8; 36]
+    ensures { λ r. ⌜ r ≡ union (now (a .entry)) (now (b .entry)) ⌝ }
+{
+    let mut bits = *a;
+    union_into(&mut bits, b);
+    bits
+}
+
+// The mask with no bit.
+pub fn empty_mask() -> [u8; 36]
+    ensures { λ r. ⌜ r ≡ empty-mask ⌝ }
+{
+    [0; 36]
+}
+
+// Whether two rows overlap: their values agree in the bits that both masks have. Where no value has a bit
+// outside its mask, this is so exactly when some key is covered by both.
+pub fn overlaps(mask1: &[u8; 36], value1: &[u8; 36], mask2: &[u8; 36], value2: &[u8; 36]) -> bool
+    ensures test { λ r. ⌜ r ≡ overlapping (now (mask1 .entry)) (now (value1 .entry)) (now (mask2 .entry)) (now (value2 .entry)) ⌝ }
+    ensures law { λ r. ⌜ (Within (now (value1 .entry)) (now (mask1 .entry)) → Within (now (value2 .entry)) (now (mask2 .entry)) → Decides r (Overlap (now (mask1 .entry)) (now (value1 .entry)) (now (mask2 .entry)) (now (value2 .entry)))) ⌝ }
+{
+    agree(&masked(mask1, mask2), value1, value2)
 }
