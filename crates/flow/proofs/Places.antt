@@ -13,9 +13,9 @@ use Rattle.std.specs.Orderings.{Decides}
 use Rattle.std.specs.declared.option.Option.{Option}
 use Rattle.std.specs.declared.option.Option.the-variants.{Some, None}
 use Rattle.std.proofs.shelf.Lists.{ext-getD}
-use Rattle.std.proofs.shelf.Tests.{cond-true, cond-false, eq-eqb, ne-eqb, eqb-true, cases-bool}
-use Rattle.flow.specs.Masks.{masked, union, covered, agreeing, Covers, Agree, Within, one-more, first-difference, first-outside}
-use Rattle.flow.proofs.MaskLaws.{masked-at, union-at, length-masked, length-union, covered-decides, agreeing-decides}
+use Rattle.std.proofs.shelf.Tests.{false≢true, cond-true, cond-false, eq-eqb, ne-eqb, eqb-true, cases-bool}
+use Rattle.flow.specs.Masks.{masked, union, Covers, Agree, Within, one-more, first-difference, first-outside}
+use Rattle.flow.proofs.MaskLaws.{masked-at, union-at, length-masked, length-union}
 
 -- a list is the AND of two, where each place is
 pub masked-from-places : (n : ℕ) (m k v : List ℕ) → length m ≡ n → length k ≡ n → length v ≡ n → ((i : ℕ) → i < n → getD v i 0 ≡ bitAnd (getD m i 0) (getD k i 0)) → v ≡ masked m k
@@ -26,26 +26,28 @@ pub union-from-places : (n : ℕ) (a b v : List ℕ) → length a ≡ n → leng
 union-from-places n a b v la lb lv h =
     ext-getD 0 v (union a b) (lv ∙ sym (length-union n a b la lb)) (λ i l. h i (omega arith) ∙ sym (union-at a b i))
 
-pub false-since : {P : Type 0} (r : Bool) → Decides r P → (P → ⊥) → false ≡ r
-false-since true d n = absurd (n (d .0 refl))
-false-since false d n = refl
-
 module _ (m v k : List ℕ) where
-  pub covered-all : length m ≡ 36 → length v ≡ 36 → length k ≡ 36 → ((i : ℕ) → i < 36 → bitAnd (getD m i 0) (getD k i 0) ≡ getD v i 0) → true ≡ covered m v k
-  covered-all lm lv lk h =
-      sym (covered-decides m v k .1 (sym (masked-from-places 36 m k v lm lk lv (λ i l. sym (h i l)))))
+  pub covers-all : length m ≡ 36 → length v ≡ 36 → length k ≡ 36 → ((i : ℕ) → i < 36 → bitAnd (getD m i 0) (getD k i 0) ≡ getD v i 0) → Covers m v k
+  covers-all lm lv lk h = sym (masked-from-places 36 m k v lm lk lv (λ i l. sym (h i l)))
 
-  pub covered-not : (i : ℕ) → (bitAnd (getD m i 0) (getD k i 0) ≡ getD v i 0 → ⊥) → false ≡ covered m v k
-  covered-not i n = false-since _ (covered-decides m v k) (λ e. n (sym (masked-at m k i) ∙ ap (λ x. getD x i 0) e))
+  pub covers-not : (i : ℕ) → (bitAnd (getD m i 0) (getD k i 0) ≡ getD v i 0 → ⊥) → Covers m v k → ⊥
+  covers-not i n e = n (sym (masked-at m k i) ∙ ap (λ x. getD x i 0) e)
 
 module _ (m a b : List ℕ) where
-  pub agreeing-all : length m ≡ 36 → length a ≡ 36 → length b ≡ 36 → ((i : ℕ) → i < 36 → bitAnd (getD m i 0) (getD a i 0) ≡ bitAnd (getD m i 0) (getD b i 0)) → true ≡ agreeing m a b
-  agreeing-all lm la lb h =
-      sym (agreeing-decides m a b .1 (masked-from-places 36 m b (masked m a) lm lb (length-masked 36 m a lm la) (λ i l. masked-at m a i ∙ h i l)))
+  pub agree-all : length m ≡ 36 → length a ≡ 36 → length b ≡ 36 → ((i : ℕ) → i < 36 → bitAnd (getD m i 0) (getD a i 0) ≡ bitAnd (getD m i 0) (getD b i 0)) → Agree m a b
+  agree-all lm la lb h =
+      masked-from-places 36 m b (masked m a) lm lb (length-masked 36 m a lm la) (λ i l. masked-at m a i ∙ h i l)
 
-  pub agreeing-not : (i : ℕ) → (bitAnd (getD m i 0) (getD a i 0) ≡ bitAnd (getD m i 0) (getD b i 0) → ⊥) → false ≡ agreeing m a b
-  agreeing-not i n =
-      false-since _ (agreeing-decides m a b) (λ e. n (sym (masked-at m a i) ∙ ap (λ x. getD x i 0) e ∙ masked-at m b i))
+  pub agree-not : (i : ℕ) → (bitAnd (getD m i 0) (getD a i 0) ≡ bitAnd (getD m i 0) (getD b i 0) → ⊥) → Agree m a b → ⊥
+  agree-not i n e = n (sym (masked-at m a i) ∙ ap (λ x. getD x i 0) e ∙ masked-at m b i)
+
+-- a test that is true just where P holds, and what is known of P where the test's code returns
+pub true-when : {P : Type 0} (t : Bool) → Decides t P → P → (true ≡ t) × Decides true P
+true-when t d p = (sym (d .1 p), ((λ _. p), λ _. refl))
+
+pub false-when : {P : Type 0} (t : Bool) → Decides t P → (P → ⊥) → (false ≡ t) × Decides false P
+false-when true d n = absurd (n (d .0 refl))
+false-when false d n = (refl, ((λ e. absurd (false≢true e)), λ p. absurd (n p)))
 
 -- the first difference ----------------------------------------------------------------------------------
 

@@ -1,11 +1,12 @@
 // Masks, values and keys as plain rows of 36 bytes.
 ghost use mathlib.Core.Path.{_≡_};
 ghost use Rattle.std.specs.Orderings.{Decides};
-ghost use Rattle.flow.specs.Masks.{covered, agreeing, inside, first-outside, masked, union, empty-mask, overlapping, Overlap, Within};
+ghost use Rattle.flow.specs.Masks.{covered, Covers, agreeing, Agree, inside, Within, first-outside, masked, union, empty-mask, overlapping, Overlap};
 
 // Whether the mask and the value cover the key: its bits under the mask are the value.
 pub fn covers(mask: &[u8; 36], value: &[u8; 36], key: &[u8; 36]) -> bool
-    ensures { λ r. ⌜ r ≡ covered (now (mask .entry)) (now (value .entry)) (now (key .entry)) ⌝ }
+    ensures test { λ r. ⌜ r ≡ covered (now (mask .entry)) (now (value .entry)) (now (key .entry)) ⌝ }
+    ensures means { λ r. ⌜ Decides r (Covers (now (mask .entry)) (now (value .entry)) (now (key .entry))) ⌝ }
 {
     for i in 0..36 {
         if mask[i] & key[i] != value[i] {
@@ -17,7 +18,8 @@ pub fn covers(mask: &[u8; 36], value: &[u8; 36], key: &[u8; 36]) -> bool
 
 // Whether two keys agree in the mask's bits.
 pub fn agree(mask: &[u8; 36], a: &[u8; 36], b: &[u8; 36]) -> bool
-    ensures { λ r. ⌜ r ≡ agreeing (now (mask .entry)) (now (a .entry)) (now (b .entry)) ⌝ }
+    ensures test { λ r. ⌜ r ≡ agreeing (now (mask .entry)) (now (a .entry)) (now (b .entry)) ⌝ }
+    ensures means { λ r. ⌜ Decides r (Agree (now (mask .entry)) (now (a .entry)) (now (b .entry))) ⌝ }
 {
     for i in 0..36 {
         if mask[i] & a[i] != mask[i] & b[i] {
@@ -29,7 +31,8 @@ pub fn agree(mask: &[u8; 36], a: &[u8; 36], b: &[u8; 36]) -> bool
 
 // Whether `a` has no bit outside `b`.
 pub fn within(a: &[u8; 36], b: &[u8; 36]) -> bool
-    ensures { λ r. ⌜ r ≡ inside (now (a .entry)) (now (b .entry)) ⌝ }
+    ensures test { λ r. ⌜ r ≡ inside (now (a .entry)) (now (b .entry)) ⌝ }
+    ensures means { λ r. ⌜ Decides r (Within (now (a .entry)) (now (b .entry))) ⌝ }
 {
     covers(b, a, a)
 }
@@ -86,7 +89,7 @@ pub fn empty_mask() -> [u8; 36]
 // outside its mask, this is so exactly when some key is covered by both.
 pub fn overlaps(mask1: &[u8; 36], value1: &[u8; 36], mask2: &[u8; 36], value2: &[u8; 36]) -> bool
     ensures test { λ r. ⌜ r ≡ overlapping (now (mask1 .entry)) (now (value1 .entry)) (now (mask2 .entry)) (now (value2 .entry)) ⌝ }
-    ensures law { λ r. ⌜ (Within (now (value1 .entry)) (now (mask1 .entry)) → Within (now (value2 .entry)) (now (mask2 .entry)) → Decides r (Overlap (now (mask1 .entry)) (now (value1 .entry)) (now (mask2 .entry)) (now (value2 .entry)))) ⌝ }
+    ensures means { λ r. ⌜ (Within (now (value1 .entry)) (now (mask1 .entry)) → Within (now (value2 .entry)) (now (mask2 .entry)) → Decides r (Overlap (now (mask1 .entry)) (now (value1 .entry)) (now (mask2 .entry)) (now (value2 .entry)))) ⌝ }
 {
     agree(&masked(mask1, mask2), value1, value2)
 }

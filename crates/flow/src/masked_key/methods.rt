@@ -3,7 +3,7 @@ ghost use mathlib.Core.Path.{_≡_};
 ghost use Rattle.std.specs.Orderings.{Decides};
 ghost use Rattle.std.specs.Results.{Cases};
 ghost use Rattle.std.specs.declared.option.Option.the-variants.{Some, None};
-ghost use Rattle.flow.specs.Masks.{covered, first-outside, overlapping, Overlap};
+ghost use Rattle.flow.specs.Masks.{covered, Covers, first-outside, overlapping, Overlap};
 use super::MaskedKey;
 use super::OutsideMask;
 use crate::rows;
@@ -33,7 +33,8 @@ impl MaskedKey {
 
     // Whether the key's bits under the mask are the value.
     pub fn covers(&self, key: &[u8; 36]) -> bool
-        ensures { λ r. ⌜ r ≡ covered (now (self .entry) .mask) (now (self .entry) .value) (now (key .entry)) ⌝ }
+        ensures test { λ r. ⌜ r ≡ covered (now (self .entry) .mask) (now (self .entry) .value) (now (key .entry)) ⌝ }
+        ensures means { λ r. ⌜ Decides r (Covers (now (self .entry) .mask) (now (self .entry) .value) (now (key .entry))) ⌝ }
     {
         rows::covers(&self.mask, &self.value, key)
     }
@@ -41,7 +42,7 @@ impl MaskedKey {
     // Whether some key is covered by both.
     pub fn overlaps(&self, other: &MaskedKey) -> bool
         ensures test { λ r. ⌜ r ≡ overlapping (now (self .entry) .mask) (now (self .entry) .value) (now (other .entry) .mask) (now (other .entry) .value) ⌝ }
-        ensures law { λ r. ⌜ Decides r (Overlap (now (self .entry) .mask) (now (self .entry) .value) (now (other .entry) .mask) (now (other .entry) .value)) ⌝ }
+        ensures means { λ r. ⌜ Decides r (Overlap (now (self .entry) .mask) (now (self .entry) .value) (now (other .entry) .mask) (now (other .entry) .value)) ⌝ }
     {
         rows::overlaps(&self.mask, &self.value, &other.mask, &other.value)
     }

@@ -11,7 +11,7 @@ returns c =
     let v = c .args .value1 .now in
     let n = c .args .mask2 .now in
     let w = c .args .value2 .now in
-    let e : c .agree .result ≡ overlapping m v n w = c .agree .ensures ∙ ap (λ x. agreeing x v w) (c .masked .ensures) in
+    let e : c .agree .result ≡ overlapping m v n w = c .agree .ensures .test ∙ ap (λ x. agreeing x v w) (c .masked .ensures) in
     record { test = e
-    ; law = λ p q. decides-at _ _ e
+    ; means = λ p q. decides-at _ _ e
       (overlapping-decides m v n w (record { long = c .told-value1; bytes = c .fits-value1 }) (record { long = c .told-value2; bytes = c .fits-value2 }) p q) }

@@ -3,4 +3,4 @@ use Rattle.flow.proofs.rows.within.Needs as need
 
 pub returns : need.returns
 unfolding covered inside
-returns c = c .covers .ensures
+returns c = record { test = c .covers .ensures .test; means = c .covers .ensures .means }
