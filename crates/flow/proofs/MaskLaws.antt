@@ -220,10 +220,14 @@ union-at (x ∷ a) (y ∷ b) (suc i) = union-at a b i
 
 pub key-masked : (m k : List ℕ) → Key m → Key k → Key (masked m k)
 key-masked m k p q =
-    record { long = length-masked 36 m k (p .long) (q .long)
-    ; bytes = λ i. rw masked-at (and-lt 8 (getD m i 0) (getD k i 0) (p .bytes i) (q .bytes i)) }
+    record {
+      long = length-masked 36 m k (p .long) (q .long);
+      bytes = λ i. rw masked-at (and-lt 8 (getD m i 0) (getD k i 0) (p .bytes i) (q .bytes i));
+    }
 
 pub key-union : (a b : List ℕ) → Key a → Key b → Key (union a b)
 key-union a b p q =
-    record { long = length-union 36 a b (p .long) (q .long)
-    ; bytes = λ i. rw union-at (or-lt 8 (getD a i 0) (getD b i 0) (p .bytes i) (q .bytes i)) }
+    record {
+      long = length-union 36 a b (p .long) (q .long);
+      bytes = λ i. rw union-at (or-lt 8 (getD a i 0) (getD b i 0) (p .bytes i) (q .bytes i));
+    }

@@ -32,9 +32,12 @@ covers-union m v n w p q e =
         ∙ masked-comm n v
 
 pub overlap-from-agree : (m v n w : List ℕ) → Key v → Key w → Within v m → Within w n → Agree (masked m n) v w → Overlap m v n w
-overlap-from-agree m v n w kv kw p q e =
-    (union v w, key-union v w kv kw, covers-union m v n w p q e
-    , ap (masked n) (union-comm v w) ∙ covers-union n w m v q p (ap (λ x. masked x w) (masked-comm n m) ∙ sym e ∙ ap (λ x. masked x v) (masked-comm m n)))
+overlap-from-agree m v n w kv kw p q e = (
+  union v w,
+  key-union v w kv kw,
+  covers-union m v n w p q e,
+  ap (masked n) (union-comm v w) ∙ covers-union n w m v q p (ap (λ x. masked x w) (masked-comm n m) ∙ sym e ∙ ap (λ x. masked x v) (masked-comm m n)),
+)
 
 pub overlapping-decides-agree : (m v n w : List ℕ) → Decides (overlapping m v n w) (Agree (masked m n) v w)
 unfolding overlapping
@@ -42,9 +45,10 @@ overlapping-decides-agree m v n w = agreeing-decides (masked m n) v w
 
 -- the test is true just where some key is covered by both
 pub overlapping-decides : (m v n w : List ℕ) → Key v → Key w → Within v m → Within w n → Decides (overlapping m v n w) (Overlap m v n w)
-overlapping-decides m v n w kv kw p q =
-    ((λ t. overlap-from-agree m v n w kv kw p q (overlapping-decides-agree m v n w .0 t))
-    , λ s. overlapping-decides-agree m v n w .1 (agree-from-both m v n w (s .0) (s .2) (s .3)))
+overlapping-decides m v n w kv kw p q = (
+  (λ t. overlap-from-agree m v n w kv kw p q (overlapping-decides-agree m v n w .0 t)),
+  λ s. overlapping-decides-agree m v n w .1 (agree-from-both m v n w (s .0) (s .2) (s .3)),
+)
 
 -- where one key is covered by both, the test is true
 pub overlapping-from-both : (m v n w k : List ℕ) → Covers m v k → Covers n w k → overlapping m v n w ≡ true
@@ -56,7 +60,7 @@ overlap-sym m v n w s = (s .0, s .1, s .3, s .2)
 pub overlapping-sym : (m v n w : List ℕ) → overlapping m v n w ≡ overlapping n w m v
 overlapping-sym m v n w =
     same-from-decides _ _ (overlapping-decides-agree m v n w)
-      (decides-like _ (turned n w m v) (turned m v n w) (overlapping-decides-agree n w m v))
+    (decides-like _ (turned n w m v) (turned m v n w) (overlapping-decides-agree n w m v))
   where
     turned : (m v n w : List ℕ) → Agree (masked m n) v w → Agree (masked n m) w v
     turned m v n w e = ap (λ x. masked x w) (masked-comm n m) ∙ sym e ∙ ap (λ x. masked x v) (masked-comm m n)

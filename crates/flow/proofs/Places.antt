@@ -2,19 +2,22 @@
 use mathlib.Core.Path.{_≡_, refl, sym, ap, ap₂, _∙_}
 use mathlib.Core.Bool.{Bool, true, false}
 use mathlib.Core.List.{List, [], _∷_}
-use Prim.Native.Nat.{ℕ, zero, suc, _+_, _<_}
+use Prim.Native.Nat.{ℕ, zero, suc, _+_, _<_, _≤_}
 use native.Mathlib.Omega.{arith}
 use lib.ListN.{length, getD}
 use lib.Dec.{eqb}
 use mathlib.Core.Logic.{⊎-elim}
 use native.Mathlib.Numerals.{add-one}
-use lib.Bits.{bitAnd, bitOr}
+use lib.Bits.{bitAnd, bitOr, bitXor}
 use Rattle.std.specs.Orderings.{Decides}
 use Rattle.std.specs.declared.option.Option.{Option}
 use Rattle.std.specs.declared.option.Option.the-variants.{Some, None}
+use borrow.Author.Count.{below-more}
+use Rattle.std.proofs.shelf.Ways.{decides-like}
 use Rattle.std.proofs.shelf.Lists.{ext-getD}
-use Rattle.std.proofs.shelf.Tests.{false≢true, cond-true, cond-false, eq-eqb, ne-eqb, eqb-true, cases-bool}
+use Rattle.std.proofs.shelf.Tests.{cond-true, cond-false, eq-eqb, ne-eqb, eqb-true, cases-bool}
 use Rattle.flow.specs.Masks.{masked, union, Covers, Agree, Within, one-more, first-difference, first-outside}
+use Rattle.flow.proofs.BitLaws.{or-none, same-from-xor, xor-same}
 use Rattle.flow.proofs.MaskLaws.{masked-at, union-at, length-masked, length-union}
 
 -- a list is the AND of two, where each place is
@@ -26,28 +29,29 @@ pub union-from-places : (n : ℕ) (a b v : List ℕ) → length a ≡ n → leng
 union-from-places n a b v la lb lv h =
     ext-getD 0 v (union a b) (lv ∙ sym (length-union n a b la lb)) (λ i l. h i (omega arith) ∙ sym (union-at a b i))
 
-module _ (m v k : List ℕ) where
-  pub covers-all : length m ≡ 36 → length v ≡ 36 → length k ≡ 36 → ((i : ℕ) → i < 36 → bitAnd (getD m i 0) (getD k i 0) ≡ getD v i 0) → Covers m v k
-  covers-all lm lv lk h = sym (masked-from-places 36 m k v lm lk lv (λ i l. sym (h i l)))
+-- covering and agreement, where the same is so of each byte
+pub covers-by-places : (m v k : List ℕ) (t : Bool) → length m ≡ 36 → length v ≡ 36 → length k ≡ 36 → Decides t ((i : ℕ) → i < 36 → bitAnd (getD m i 0) (getD k i 0) ≡ getD v i 0) → Decides t (Covers m v k)
+covers-by-places m v k t lm lv lk =
+    decides-like t (λ h. sym (masked-from-places 36 m k v lm lk lv (λ i l. sym (h i l))))
+    (λ e i l. sym (masked-at m k i) ∙ ap (λ x. getD x i 0) e)
 
-  pub covers-not : (i : ℕ) → (bitAnd (getD m i 0) (getD k i 0) ≡ getD v i 0 → ⊥) → Covers m v k → ⊥
-  covers-not i n e = n (sym (masked-at m k i) ∙ ap (λ x. getD x i 0) e)
+pub agree-by-places : (m a b : List ℕ) (t : Bool) → length m ≡ 36 → length a ≡ 36 → length b ≡ 36 → Decides t ((i : ℕ) → i < 36 → bitAnd (getD m i 0) (getD a i 0) ≡ bitAnd (getD m i 0) (getD b i 0)) → Decides t (Agree m a b)
+agree-by-places m a b t lm la lb =
+    decides-like t (λ h. masked-from-places 36 m b (masked m a) lm lb (length-masked 36 m a lm la) (λ i l. masked-at m a i ∙ h i l))
+    (λ e i l. sym (masked-at m a i) ∙ ap (λ x. getD x i 0) e ∙ masked-at m b i)
 
-module _ (m a b : List ℕ) where
-  pub agree-all : length m ≡ 36 → length a ≡ 36 → length b ≡ 36 → ((i : ℕ) → i < 36 → bitAnd (getD m i 0) (getD a i 0) ≡ bitAnd (getD m i 0) (getD b i 0)) → Agree m a b
-  agree-all lm la lb h =
-      masked-from-places 36 m b (masked m a) lm lb (length-masked 36 m a lm la) (λ i l. masked-at m a i ∙ h i l)
+-- a loop that gathers in d the bits in which f and g differ, at place i
+abbrev pub Gathered : (ℕ → ℕ) → (ℕ → ℕ) → ℕ → ℕ → Type 0
+Gathered f g d i = (d ≡ 0 → (k : ℕ) → k < i → f k ≡ g k) × (((k : ℕ) → k < 36 → f k ≡ g k) → d ≡ 0)
 
-  pub agree-not : (i : ℕ) → (bitAnd (getD m i 0) (getD a i 0) ≡ bitAnd (getD m i 0) (getD b i 0) → ⊥) → Agree m a b → ⊥
-  agree-not i n e = n (sym (masked-at m a i) ∙ ap (λ x. getD x i 0) e ∙ masked-at m b i)
+pub gathered-more : (f g : ℕ → ℕ) (d i : ℕ) → i < 36 → Gathered f g d i → Gathered f g (bitOr d (bitXor (f i) (g i))) (i + 1)
+gathered-more f g d i l h = (
+  (λ e. let p = or-none d (bitXor (f i) (g i)) e in below-more _ i (h .0 (p .0)) (same-from-xor (f i) (g i) (p .1))),
+  λ s. ap₂ bitOr (h .1 s) (xor-same (f i) (g i) (s i l)),
+)
 
--- a test that is true just where P holds, and what is known of P where the test's code returns
-pub true-when : {P : Type 0} (t : Bool) → Decides t P → P → (true ≡ t) × Decides true P
-true-when t d p = (sym (d .1 p), ((λ _. p), λ _. refl))
-
-pub false-when : {P : Type 0} (t : Bool) → Decides t P → (P → ⊥) → (false ≡ t) × Decides false P
-false-when true d n = absurd (n (d .0 refl))
-false-when false d n = (refl, ((λ e. absurd (false≢true e)), λ p. absurd (n p)))
+pub gathered-all : (f g : ℕ → ℕ) (d i : ℕ) → 36 ≤ i → Gathered f g d i → Decides (eqb d 0) ((k : ℕ) → k < 36 → f k ≡ g k)
+gathered-all f g d i l h = ((λ t k q. h .0 (eqb-true d 0 t) k (omega arith)), λ s. eq-eqb d 0 (h .1 s))
 
 -- the first difference ----------------------------------------------------------------------------------
 
@@ -77,13 +81,13 @@ same-from-none [] (y ∷ ys) l e = absurd (omega arith)
 same-from-none (x ∷ xs) [] l e = absurd (omega arith)
 same-from-none (x ∷ xs) (y ∷ ys) l e =
     ⊎-elim
-      (λ (t : eqb x y ≡ true).
-        ap₂ _∷_ (eqb-true x y t)
-          (same-from-none xs ys (omega arith) (none-before _ (sym (cond-true (eqb x y) _ _ t) ∙ e))))
-      (λ (t : eqb x y ≡ false).
-        let s : Some 0 ≡ None = sym (cond-false (eqb x y) _ _ t) ∙ e in
-        let z : _≡_ {A = ℕ} 0 1 = cc in absurd (omega arith))
-      (cases-bool (eqb x y))
+    (λ (t : eqb x y ≡ true).
+    ap₂ _∷_ (eqb-true x y t)
+    (same-from-none xs ys (omega arith) (none-before _ (sym (cond-true (eqb x y) _ _ t) ∙ e))))
+    (λ (t : eqb x y ≡ false).
+    let s : Some 0 ≡ None = sym (cond-false (eqb x y) _ _ t) ∙ e in
+    let z : _≡_ {A = ℕ} 0 1 = cc in absurd (omega arith))
+    (cases-bool (eqb x y))
 
 -- no byte of the value has a bit outside the mask, just where the value has none
 pub none-outside : (m v : List ℕ) → Within v m → first-outside m v ≡ None

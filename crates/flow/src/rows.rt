@@ -8,12 +8,12 @@ pub fn covers(mask: &[u8; 36], value: &[u8; 36], key: &[u8; 36]) -> bool
     ensures test { λ r. ⌜ r ≡ covered (now (mask .entry)) (now (value .entry)) (now (key .entry)) ⌝ }
     ensures means { λ r. ⌜ Decides r (Covers (now (mask .entry)) (now (value .entry)) (now (key .entry))) ⌝ }
 {
+    // with no exit on the way the compiler takes many bytes at once
+    let mut differ = 0;
     for i in 0..36 {
-        if mask[i] & key[i] != value[i] {
-            return false;
-        }
+        differ |= (mask[i] & key[i]) ^ value[i];
     }
-    true
+    differ == 0
 }
 
 // Whether two keys agree in the mask's bits.
@@ -21,12 +21,11 @@ pub fn agree(mask: &[u8; 36], a: &[u8; 36], b: &[u8; 36]) -> bool
     ensures test { λ r. ⌜ r ≡ agreeing (now (mask .entry)) (now (a .entry)) (now (b .entry)) ⌝ }
     ensures means { λ r. ⌜ Decides r (Agree (now (mask .entry)) (now (a .entry)) (now (b .entry))) ⌝ }
 {
+    let mut differ = 0;
     for i in 0..36 {
-        if mask[i] & a[i] != mask[i] & b[i] {
-            return false;
-        }
+        differ |= (mask[i] & a[i]) ^ (mask[i] & b[i]);
     }
-    true
+    differ == 0
 }
 
 // Whether `a` has no bit outside `b`.

@@ -14,7 +14,10 @@ impl MaskedKey {
         ensures { λ r. ⌜ Cases r (λ k. (first-outside (now (mask .entry)) (now (value .entry)) ≡ None) × (k .mask ≡ now (mask .entry)) × (k .value ≡ now (value .entry))) (λ e. first-outside (now (mask .entry)) (now (value .entry)) ≡ Some (e .byte)) ⌝ }
     {
         match rows::first_outside(mask, value) {
-            None => Ok(MaskedKey { mask: *mask, value: *value }),
+            None => Ok(MaskedKey {
+                mask: *mask,
+                value: *value,
+            }),
             Some(byte) => Err(OutsideMask { byte }),
         }
     }

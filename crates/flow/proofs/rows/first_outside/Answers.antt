@@ -6,7 +6,7 @@ use Rattle.flow.proofs.rows.first_outside.Needs as need
 pub returns-then-mask-i : need.returns-then-mask-i
 returns-then-mask-i c =
     sym (outside-at (c .args .mask .now) (c .args .value .now) (c .loop-i .i) (c .told-mask ∙ sym (c .told-value)) (omega arith)
-      (c .loop-i .inv) (c .if-mask-i .taken))
+    (c .loop-i .inv) (c .if-mask-i .taken))
 
 pub returns : need.returns
 returns c =

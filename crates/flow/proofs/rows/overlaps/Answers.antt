@@ -12,6 +12,8 @@ returns c =
     let n = c .args .mask2 .now in
     let w = c .args .value2 .now in
     let e : c .agree .result ≡ overlapping m v n w = c .agree .ensures .test ∙ ap (λ x. agreeing x v w) (c .masked .ensures) in
-    record { test = e
-    ; means = λ p q. decides-at _ _ e
-      (overlapping-decides m v n w (record { long = c .told-value1; bytes = c .fits-value1 }) (record { long = c .told-value2; bytes = c .fits-value2 }) p q) }
+    record {
+      test = e;
+      means = λ p q. decides-at _ _ e
+          (overlapping-decides m v n w (record { long = c .told-value1; bytes = c .fits-value1 }) (record { long = c .told-value2; bytes = c .fits-value2 }) p q);
+    }
