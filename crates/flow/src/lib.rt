@@ -1,6 +1,8 @@
 // Masked keys: which bits of a key a mask names, and which keys a mask and a value cover.
 pub mod masked_key;
 pub mod rows;
+#[cfg(test)]
+mod tests;
 
 pub use masked_key::MaskedKey;
 pub use masked_key::OutsideMask;
