@@ -185,8 +185,7 @@ unfolding agreeing
 agreeing-decides m k q = sameBytes-decides (masked m k) (masked m q)
 
 pub inside-decides : (a b : List ℕ) → Decides (inside a b) (Within a b)
-unfolding inside
-inside-decides a b = sameBytes-decides (masked b a) a
+inside-decides a b = covered-decides b a a
 
 -- lengths and bytes --------------------------------------------------------------------------------------
 

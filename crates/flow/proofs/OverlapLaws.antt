@@ -40,7 +40,6 @@ overlap-from-agree m v n w kv kw p q e = (
 )
 
 pub overlapping-decides-agree : (m v n w : List ℕ) → Decides (overlapping m v n w) (Agree (masked m n) v w)
-unfolding overlapping
 overlapping-decides-agree m v n w = agreeing-decides (masked m n) v w
 
 -- the test is true just where some key is covered by both

@@ -50,8 +50,8 @@ agreeing m k q = sameBytes (masked m k) (masked m q)
 abbrev pub Within : List ℕ → List ℕ → Type 0
 Within a b = masked b a ≡ a
 
-unfoldable pub inside : List ℕ → List ℕ → Bool
-inside a b = sameBytes (masked b a) a
+abbrev pub inside : List ℕ → List ℕ → Bool
+inside a b = covered b a a
 
 -- a place that is counted from one element further on
 abbrev pub one-more : Option ℕ → Option ℕ
@@ -73,5 +73,5 @@ abbrev pub Overlap : List ℕ → List ℕ → List ℕ → List ℕ → Type 0
 Overlap m v n w = (key : List ℕ) × Key key × Covers m v key × Covers n w key
 
 -- the values agree in the bits that both masks have
-unfoldable pub overlapping : List ℕ → List ℕ → List ℕ → List ℕ → Bool
+abbrev pub overlapping : List ℕ → List ℕ → List ℕ → List ℕ → Bool
 overlapping m v n w = agreeing (masked m n) v w

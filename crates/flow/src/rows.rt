@@ -21,11 +21,11 @@ pub fn agree(mask: &[u8; 36], a: &[u8; 36], b: &[u8; 36]) -> bool
     ensures test { λ r. ⌜ r ≡ agreeing (now (mask .entry)) (now (a .entry)) (now (b .entry)) ⌝ }
     ensures means { λ r. ⌜ Decides r (Agree (now (mask .entry)) (now (a .entry)) (now (b .entry))) ⌝ }
 {
-    let mut differ = 0;
+    let mut apart = 0;
     for i in 0..36 {
-        differ |= (mask[i] & a[i]) ^ (mask[i] & b[i]);
+        apart |= (mask[i] & a[i]) ^ (mask[i] & b[i]);
     }
-    differ == 0
+    apart == 0
 }
 
 // Whether `a` has no bit outside `b`.
@@ -40,9 +40,9 @@ pub fn within(a: &[u8; 36], b: &[u8; 36]) -> bool
 pub fn first_outside(mask: &[u8; 36], value: &[u8; 36]) -> Option<usize>
     ensures { λ r. ⌜ r ≡ first-outside (now (mask .entry)) (now (value .entry)) ⌝ }
 {
-    for i in 0..36 {
-        if mask[i] & value[i] != value[i] {
-            return Some(i);
+    for byte in 0..36 {
+        if mask[byte] & value[byte] != value[byte] {
+            return Some(byte);
         }
     }
     None

@@ -24,8 +24,14 @@ fn covers_by_the_masks_bits() -> Result<(), Fail> {
 #[test]
 fn refuses_a_value_outside_its_mask() -> Result<(), Fail> {
     let value = union(&row(4, 1), &row(9, 0x20));
-    check_eq(MaskedKey::from_row(&row(4, 1), &value).err(), Some(OutsideMask { byte: 9 }))?;
-    check_eq(MaskedKey::from_row(&row(9, 0xff), &value).err(), Some(OutsideMask { byte: 4 }))
+    check_eq(
+        MaskedKey::from_row(&row(4, 1), &value).err(),
+        Some(OutsideMask { byte: 9 }),
+    )?;
+    check_eq(
+        MaskedKey::from_row(&row(9, 0xff), &value).err(),
+        Some(OutsideMask { byte: 4 }),
+    )
 }
 
 #[test]

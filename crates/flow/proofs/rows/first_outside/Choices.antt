@@ -4,5 +4,5 @@ use lib.ListN.{getD}
 use lib.Bits.{bitAnd}
 use Rattle.flow.proofs.rows.first_outside.Given as given
 
-abbrev pub Inv-loop-i : given.InvT-loop-i
-Inv-loop-i l = (k : ℕ) → k < l .i → bitAnd (getD (l .mask) k 0) (getD (l .value) k 0) ≡ getD (l .value) k 0
+abbrev pub Inv-loop-byte : given.InvT-loop-byte
+Inv-loop-byte l = (k : ℕ) → k < l .byte → bitAnd (getD (l .mask) k 0) (getD (l .value) k 0) ≡ getD (l .value) k 0

@@ -5,7 +5,6 @@ use Rattle.flow.proofs.OverlapLaws.{overlapping-decides}
 use Rattle.flow.proofs.rows.overlaps.Needs as need
 
 pub returns : need.returns
-unfolding overlapping
 returns c =
     let m = c .args .mask1 .now in
     let v = c .args .value1 .now in
