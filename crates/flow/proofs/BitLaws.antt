@@ -1,7 +1,7 @@
 -- Laws of AND and OR that lib.Bits lacks.
 use mathlib.Core.Path.{_≡_, refl, sym, ap, ap₂, _∙_}
 use Prim.Native.Nat.{ℕ, zero, suc, _+_, _*_, _/_, _%_, _<_}
-use native.Mathlib.Nat.{mod-lt, div-add-mod'}
+use native.Mathlib.Nat.{div-add-mod'}
 use native.Mathlib.Omega.{arith}
 use lib.Arith.{bin-ind}
 use lib.Bits.{bitAnd, bitOr, and-shr, or-shr, and-mod, or-mod, and-comm, and-self, bitXor, or-add-and, and-le-l, and-le-r, xor-zero-l, xor-zero-r, xor-self, xor-assoc}

@@ -1,14 +1,13 @@
 -- The laws of masked keys: what the crates above use in place of the definitions.
 use mathlib.Core.Path.{_≡_, refl, sym, ap, ap₂, _∙_}
-use mathlib.Core.Bool.{Bool, true, false}
 use mathlib.Core.List.{List, [], _∷_}
-use Prim.Native.Nat.{ℕ, zero, suc, _+_, _^_, _<_, _≤_}
+use Prim.Native.Nat.{ℕ, zero, suc}
 use native.Mathlib.Omega.{arith}
-use lib.ListN.{length, getD, replicate}
+use lib.ListN.{length, getD}
 use lib.Bits.{bitAnd, bitOr, and-comm, or-comm, and-self, or-self, and-zero-r, or-zero-r, and-lt, or-lt}
 use Rattle.std.specs.Orderings.{Decides}
 use Rattle.std.proofs.shelf.Equals.{sameBytes-decides}
-use Rattle.flow.specs.Masks.{Key, masked, union, empty-mask, Covers, covered, Agree, agreeing, Within, inside}
+use Rattle.flow.specs.Masks.{Bytes36, masked, union, Covers, covered, Agree, agreeing, Within, inside}
 use Rattle.flow.proofs.BitLaws.{and-assoc, or-assoc, and-or, or-and-absorb, or-and-self}
 
 -- AND and OR of lists ----------------------------------------------------------------------------------
@@ -62,19 +61,6 @@ pub union-self : (a : List ℕ) → union a a ≡ a
 unfolding union
 union-self [] = refl
 union-self (x ∷ a) = ap₂ _∷_ (or-self x) (union-self a)
-
-union-zeros : (n : ℕ) (a : List ℕ) → length a ≡ n → union a (replicate n 0) ≡ a
-unfolding union
-union-zeros zero a h = union-nil a
-union-zeros (suc n) [] h = absurd (omega arith)
-union-zeros (suc n) (x ∷ a) h = ap₂ _∷_ (or-zero-r x) (union-zeros n a (omega arith))
-
-pub union-empty : (a : List ℕ) → length a ≡ 36 → union a empty-mask ≡ a
-unfolding empty-mask
-union-empty a h = union-zeros 36 a h
-
-pub empty-union : (a : List ℕ) → length a ≡ 36 → union empty-mask a ≡ a
-empty-union a h = union-comm empty-mask a ∙ union-empty a h
 
 pub masked-union : (a b c : List ℕ) → masked (union a b) c ≡ union (masked a c) (masked b c)
 unfolding masked union
@@ -217,14 +203,14 @@ union-at (x ∷ a) [] i = sym (or-zero-r (getD (x ∷ a) i 0))
 union-at (x ∷ a) (y ∷ b) zero = refl
 union-at (x ∷ a) (y ∷ b) (suc i) = union-at a b i
 
-pub key-masked : (m k : List ℕ) → Key m → Key k → Key (masked m k)
+pub key-masked : (m k : List ℕ) → Bytes36 m → Bytes36 k → Bytes36 (masked m k)
 key-masked m k p q =
     record {
       long = length-masked 36 m k (p .long) (q .long);
       bytes = λ i. rw masked-at (and-lt 8 (getD m i 0) (getD k i 0) (p .bytes i) (q .bytes i));
     }
 
-pub key-union : (a b : List ℕ) → Key a → Key b → Key (union a b)
+pub key-union : (a b : List ℕ) → Bytes36 a → Bytes36 b → Bytes36 (union a b)
 key-union a b p q =
     record {
       long = length-union 36 a b (p .long) (q .long);

@@ -1,11 +1,11 @@
 -- Two masked keys overlap just where their values agree in the bits of both masks.
-use mathlib.Core.Path.{_≡_, refl, sym, ap, ap₂, _∙_}
-use mathlib.Core.Bool.{Bool, true, false}
+use mathlib.Core.Path.{_≡_, sym, ap, ap₂, _∙_}
+use mathlib.Core.Bool.{true}
 use mathlib.Core.List.{List}
 use Prim.Native.Nat.{ℕ}
 use Rattle.std.specs.Orderings.{Decides}
 use Rattle.std.proofs.shelf.Ways.{same-from-decides, decides-like}
-use Rattle.flow.specs.Masks.{Key, masked, union, Covers, Agree, Within, Overlap, overlapping}
+use Rattle.flow.specs.Masks.{Bytes36, masked, union, Covers, Agree, Within, Overlap, overlapping}
 use Rattle.flow.proofs.MaskLaws.{masked-comm, masked-assoc, masked-swap, masked-union, union-masked, union-comm, within-masked, within-key, agree-within, value-agrees, agreeing-decides, key-union}
 
 -- a key that both cover: the values agree, since each agrees with the key
@@ -31,7 +31,7 @@ covers-union m v n w p q e =
         ∙ ap (masked n) p
         ∙ masked-comm n v
 
-pub overlap-from-agree : (m v n w : List ℕ) → Key v → Key w → Within v m → Within w n → Agree (masked m n) v w → Overlap m v n w
+pub overlap-from-agree : (m v n w : List ℕ) → Bytes36 v → Bytes36 w → Within v m → Within w n → Agree (masked m n) v w → Overlap m v n w
 overlap-from-agree m v n w kv kw p q e = (
   union v w,
   key-union v w kv kw,
@@ -43,7 +43,7 @@ pub overlapping-decides-agree : (m v n w : List ℕ) → Decides (overlapping m 
 overlapping-decides-agree m v n w = agreeing-decides (masked m n) v w
 
 -- the test is true just where some key is covered by both
-pub overlapping-decides : (m v n w : List ℕ) → Key v → Key w → Within v m → Within w n → Decides (overlapping m v n w) (Overlap m v n w)
+pub overlapping-decides : (m v n w : List ℕ) → Bytes36 v → Bytes36 w → Within v m → Within w n → Decides (overlapping m v n w) (Overlap m v n w)
 overlapping-decides m v n w kv kw p q = (
   (λ t. overlap-from-agree m v n w kv kw p q (overlapping-decides-agree m v n w .0 t)),
   λ s. overlapping-decides-agree m v n w .1 (agree-from-both m v n w (s .0) (s .2) (s .3)),

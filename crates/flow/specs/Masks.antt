@@ -1,5 +1,6 @@
 -- Keys, masks and values, as lists of bytes: a key is 36 bytes, and a mask names some of its bits.
--- The laws of these definitions are in proofs/MaskLaws.antt and proofs/OverlapLaws.antt: use them, and open no definition.
+-- Their laws are in proofs/MaskLaws.antt, proofs/WholeLaws.antt, proofs/OutsideLaws.antt and proofs/OverlapLaws.antt: proofs
+-- elsewhere use those, and open no definition.
 use mathlib.Core.Path.{_≡_}
 use mathlib.Core.Bool.{Bool, cond}
 use mathlib.Core.List.{List, [], _∷_}
@@ -11,10 +12,10 @@ use Rattle.std.specs.shelf.Text.{sameBytes}
 use Rattle.std.specs.declared.option.Option.{Option}
 use Rattle.std.specs.declared.option.Option.the-variants.{Some, None}
 
--- 36 bytes
-pub record Key (key : List ℕ) : Type 0 where
-  pub long : length key ≡ 36
-  pub bytes : (i : ℕ) → getD key i 0 < 256
+-- a list of 36 bytes
+pub record Bytes36 (xs : List ℕ) : Type 0 where
+  pub long : length xs ≡ 36
+  pub bytes : (i : ℕ) → getD xs i 0 < 256
 
 -- the key's bits under the mask: the bytewise AND
 unfoldable pub masked : List ℕ → List ℕ → List ℕ
@@ -31,6 +32,10 @@ union (x ∷ a) (y ∷ b) = bitOr x y ∷ union a b
 -- the mask with no bit
 unfoldable pub empty-mask : List ℕ
 empty-mask = replicate 36 0
+
+-- the mask with every bit
+unfoldable pub full-mask : List ℕ
+full-mask = replicate 36 255
 
 -- the mask and the value cover the key
 abbrev pub Covers : List ℕ → List ℕ → List ℕ → Type 0
@@ -70,7 +75,7 @@ first-outside m v = first-difference (masked m v) v
 
 -- some key is covered by both masks with their values
 abbrev pub Overlap : List ℕ → List ℕ → List ℕ → List ℕ → Type 0
-Overlap m v n w = (key : List ℕ) × Key key × Covers m v key × Covers n w key
+Overlap m v n w = (key : List ℕ) × Bytes36 key × Covers m v key × Covers n w key
 
 -- the values agree in the bits that both masks have
 abbrev pub overlapping : List ℕ → List ℕ → List ℕ → List ℕ → Bool

@@ -8,7 +8,7 @@ mod methods;
 pub struct MaskedKey {
     mask: [u8; 36],
     value: [u8; 36],
-    ghost inside: { Within value mask },
+    ghost fits: { Within value mask },
 }
 
 // A value has a bit outside its mask; `byte` is the first byte with such a bit.

@@ -1,6 +1,6 @@
 use native.Mathlib.Omega.{arith}
 use mathlib.Core.Path.{sym, _∙_}
-use Rattle.flow.proofs.Places.{outside-all, outside-at}
+use Rattle.flow.proofs.OutsideLaws.{outside-all, outside-at}
 use Rattle.flow.proofs.rows.first_outside.Needs as need
 
 pub returns-then-mask-byte : need.returns-then-mask-byte

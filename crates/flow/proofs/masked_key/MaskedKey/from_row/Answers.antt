@@ -1,5 +1,5 @@
 use mathlib.Core.Path.{sym, _∙_}
-use Rattle.flow.proofs.Places.{within-from-none}
+use Rattle.flow.proofs.OutsideLaws.{within-from-none}
 use Rattle.flow.proofs.masked_key.MaskedKey.from_row.Needs as need
 
 pub ghost-result : need.ghost-result
