@@ -203,15 +203,15 @@ union-at (x ∷ a) [] i = sym (or-zero-r (getD (x ∷ a) i 0))
 union-at (x ∷ a) (y ∷ b) zero = refl
 union-at (x ∷ a) (y ∷ b) (suc i) = union-at a b i
 
-pub key-masked : (m k : List ℕ) → Bytes36 m → Bytes36 k → Bytes36 (masked m k)
-key-masked m k p q =
+pub bytes-masked : (m k : List ℕ) → Bytes36 m → Bytes36 k → Bytes36 (masked m k)
+bytes-masked m k p q =
     record {
       long = length-masked 36 m k (p .long) (q .long);
       bytes = λ i. rw masked-at (and-lt 8 (getD m i 0) (getD k i 0) (p .bytes i) (q .bytes i));
     }
 
-pub key-union : (a b : List ℕ) → Bytes36 a → Bytes36 b → Bytes36 (union a b)
-key-union a b p q =
+pub bytes-union : (a b : List ℕ) → Bytes36 a → Bytes36 b → Bytes36 (union a b)
+bytes-union a b p q =
     record {
       long = length-union 36 a b (p .long) (q .long);
       bytes = λ i. rw union-at (or-lt 8 (getD a i 0) (getD b i 0) (p .bytes i) (q .bytes i));

@@ -6,7 +6,7 @@ use Prim.Native.Nat.{ℕ}
 use Rattle.std.specs.Orderings.{Decides}
 use Rattle.std.proofs.shelf.Ways.{same-from-decides, decides-like}
 use Rattle.flow.specs.Masks.{Bytes36, masked, union, Covers, Agree, Within, Overlap, overlapping}
-use Rattle.flow.proofs.MaskLaws.{masked-comm, masked-assoc, masked-swap, masked-union, union-masked, union-comm, within-masked, within-key, agree-within, value-agrees, agreeing-decides, key-union}
+use Rattle.flow.proofs.MaskLaws.{masked-comm, masked-assoc, masked-swap, masked-union, union-masked, union-comm, within-masked, within-key, agree-within, value-agrees, agreeing-decides, bytes-union}
 
 -- a key that both cover: the values agree, since each agrees with the key
 pub agree-from-both : (m v n w k : List ℕ) → Covers m v k → Covers n w k → Agree (masked m n) v w
@@ -31,12 +31,15 @@ covers-union m v n w p q e =
         ∙ ap (masked n) p
         ∙ masked-comm n v
 
+turned : (m v n w : List ℕ) → Agree (masked m n) v w → Agree (masked n m) w v
+turned m v n w e = ap (λ x. masked x w) (masked-comm n m) ∙ sym e ∙ ap (λ x. masked x v) (masked-comm m n)
+
 pub overlap-from-agree : (m v n w : List ℕ) → Bytes36 v → Bytes36 w → Within v m → Within w n → Agree (masked m n) v w → Overlap m v n w
 overlap-from-agree m v n w kv kw p q e = (
   union v w,
-  key-union v w kv kw,
+  bytes-union v w kv kw,
   covers-union m v n w p q e,
-  ap (masked n) (union-comm v w) ∙ covers-union n w m v q p (ap (λ x. masked x w) (masked-comm n m) ∙ sym e ∙ ap (λ x. masked x v) (masked-comm m n)),
+  ap (masked n) (union-comm v w) ∙ covers-union n w m v q p (turned m v n w e),
 )
 
 pub overlapping-decides-agree : (m v n w : List ℕ) → Decides (overlapping m v n w) (Agree (masked m n) v w)
@@ -60,6 +63,3 @@ pub overlapping-sym : (m v n w : List ℕ) → overlapping m v n w ≡ overlappi
 overlapping-sym m v n w =
     same-from-decides _ _ (overlapping-decides-agree m v n w)
     (decides-like _ (turned n w m v) (turned m v n w) (overlapping-decides-agree n w m v))
-  where
-    turned : (m v n w : List ℕ) → Agree (masked m n) v w → Agree (masked n m) w v
-    turned m v n w e = ap (λ x. masked x w) (masked-comm n m) ∙ sym e ∙ ap (λ x. masked x v) (masked-comm m n)

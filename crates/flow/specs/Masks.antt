@@ -1,6 +1,6 @@
 -- Keys, masks and values, as lists of bytes: a key is 36 bytes, and a mask names some of its bits.
--- Their laws are in proofs/MaskLaws.antt, proofs/WholeLaws.antt, proofs/OutsideLaws.antt and proofs/OverlapLaws.antt: proofs
--- elsewhere use those, and open no definition.
+-- Their laws are in proofs/MaskLaws.antt, WholeLaws.antt, OutsideLaws.antt and OverlapLaws.antt: other proofs use
+-- those, and open no definition. A name in capitals is a statement, and the one in small letters after it its test.
 use mathlib.Core.Path.{_≡_}
 use mathlib.Core.Bool.{Bool, cond}
 use mathlib.Core.List.{List, [], _∷_}
@@ -12,7 +12,7 @@ use Rattle.std.specs.shelf.Text.{sameBytes}
 use Rattle.std.specs.declared.option.Option.{Option}
 use Rattle.std.specs.declared.option.Option.the-variants.{Some, None}
 
--- a list of 36 bytes
+-- 36 bytes: a key, a mask or a value
 pub record Bytes36 (xs : List ℕ) : Type 0 where
   pub long : length xs ≡ 36
   pub bytes : (i : ℕ) → getD xs i 0 < 256
@@ -23,7 +23,7 @@ masked [] k = []
 masked (x ∷ m) [] = []
 masked (x ∷ m) (y ∷ k) = bitAnd x y ∷ masked m k
 
--- the bits of either mask: the bytewise OR
+-- the bits of either mask: the bytewise OR (of lists of two lengths, with what is left of the longer)
 unfoldable pub union : List ℕ → List ℕ → List ℕ
 union [] b = b
 union (x ∷ a) [] = x ∷ a
@@ -37,7 +37,7 @@ empty-mask = replicate 36 0
 unfoldable pub full-mask : List ℕ
 full-mask = replicate 36 255
 
--- the mask and the value cover the key
+-- the mask and the value cover the key: its bits under the mask are the value
 abbrev pub Covers : List ℕ → List ℕ → List ℕ → Type 0
 Covers m v k = masked m k ≡ v
 
@@ -51,7 +51,7 @@ Agree m k q = masked m k ≡ masked m q
 unfoldable pub agreeing : List ℕ → List ℕ → List ℕ → Bool
 agreeing m k q = sameBytes (masked m k) (masked m q)
 
--- a has no bit outside b
+-- a has no bit outside b: all its bits are left under b
 abbrev pub Within : List ℕ → List ℕ → Type 0
 Within a b = masked b a ≡ a
 
@@ -73,10 +73,10 @@ first-difference (x ∷ xs) (y ∷ ys) = cond (eqb x y) (one-more (first-differe
 unfoldable pub first-outside : List ℕ → List ℕ → Option ℕ
 first-outside m v = first-difference (masked m v) v
 
--- some key is covered by both masks with their values
+-- two masks with their values overlap: some key is covered by both
 abbrev pub Overlap : List ℕ → List ℕ → List ℕ → List ℕ → Type 0
 Overlap m v n w = (key : List ℕ) × Bytes36 key × Covers m v key × Covers n w key
 
--- the values agree in the bits that both masks have
+-- the test of it: the values agree in the bits that both masks have
 abbrev pub overlapping : List ℕ → List ℕ → List ℕ → List ℕ → Bool
 overlapping m v n w = agreeing (masked m n) v w
