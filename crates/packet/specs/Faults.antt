@@ -4,13 +4,12 @@ use Rattle.packet.specs.declared.fault.FrameFault.{FrameFault}
 use Rattle.packet.specs.declared.fault.FrameFault.the-variants.{InPort, Short, Long, ShortTagged}
 
 -- a refusal: its number, and the detail that it gives
-pub record Refusal : Type 0 where
-  pub number : ℕ
-  pub detail : ℕ
+abbrev pub Refusal : Type 0
+Refusal = ℕ × ℕ
 
 -- each fault as a refusal
 abbrev pub refusal-of : FrameFault → Refusal
-refusal-of (InPort port) = record { number = 1; detail = port }
-refusal-of (Short len) = record { number = 2; detail = len }
-refusal-of (Long len) = record { number = 3; detail = len }
-refusal-of (ShortTagged len) = record { number = 4; detail = len }
+refusal-of (InPort port) = (1, port)
+refusal-of (Short len) = (2, len)
+refusal-of (Long len) = (3, len)
+refusal-of (ShortTagged len) = (4, len)

@@ -60,10 +60,10 @@ network f = drop (network-at f) f
 -- the first reason for which a frame at an in-port is not read
 abbrev pub refusal : ℕ → List ℕ → Option Refusal
 refusal port f =
-    cond (ltb port 1 || ltb 63 port) (Some (record { number = 1; detail = port }))
-    (cond (ltb (length f) 14) (Some (record { number = 2; detail = length f }))
-    (cond (ltb 9216 (length f)) (Some (record { number = 3; detail = length f }))
-    (cond (tagged f && ltb (length f) 18) (Some (record { number = 4; detail = length f })) None)))
+    cond (ltb port 1 || ltb 63 port) (Some (1, port))
+    (cond (ltb (length f) 14) (Some (2, length f))
+    (cond (ltb 9216 (length f)) (Some (3, length f))
+    (cond (tagged f && ltb (length f) 18) (Some (4, length f)) None)))
 
 -- IPv4, over the network bytes -----------------------------------------------------------------------------
 

@@ -26,7 +26,7 @@ ports-at f = field f 32 4
 
 pub record Reading-examples : Type 0 where
   -- 13 bytes from port 1 are refused; 14 untagged bytes are read
-  pub short : (f : List ℕ) → length f ≡ 13 → refusal 1 f ≡ Some (record { number = 2; detail = 13 })
+  pub short : (f : List ℕ) → length f ≡ 13 → refusal 1 f ≡ Some (2, 13)
   pub shortest : (f : List ℕ) → length f ≡ 14 → tagged f ≡ false → refusal 1 f ≡ None
   -- the VLAN is the tag control information with bit 12 set
   pub vlan : vlan-at (tagged-frame 0x6064) ≡ bytes16 0x7064
