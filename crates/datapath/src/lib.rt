@@ -1,0 +1,10 @@
+// The walk over four tables, what a level promises, and the tables as the lowest level.
+pub mod fault;
+pub mod level;
+
+pub use fault::TablesFault;
+pub use level::Decision;
+pub use level::Level;
+pub use level::Mark;
+pub use level::Peek;
+pub use level::RuleRecord;
