@@ -1,3 +1,4 @@
 pub mod Counts
 pub mod WalkLaws
 pub mod Steps
+pub mod Nexts

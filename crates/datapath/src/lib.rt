@@ -1,6 +1,8 @@
 // The walk over four tables, what a level promises, and the tables as the lowest level.
 pub mod fault;
 pub mod level;
+pub mod tables;
+mod walk;
 
 pub use fault::TablesFault;
 pub use level::Decision;
@@ -8,3 +10,4 @@ pub use level::Level;
 pub use level::Mark;
 pub use level::Peek;
 pub use level::RuleRecord;
+pub use tables::Tables;
