@@ -12,7 +12,7 @@ use Rattle.packet.specs.Frames.{refusal, key-of}
 -- a refusal's number, 0 for a frame that is read
 abbrev pub number-of : Option Refusal → ℕ
 number-of None = 0
-number-of (Some r) = r .number
+number-of (Some r) = r .0
 
 -- one list for a frame that is read, another for one that is refused
 abbrev pub if-read : Option Refusal → (read refused : List ℕ) → List ℕ
