@@ -32,3 +32,10 @@ long-bytes f i fits h =
     let e3 : i + 1 + 1 + 1 ≡ i + 3 = omega arith in
     let e = part-bytes 4 i f (omega arith) in
     bytes32-joined (byte f i) (byte f (i + 1)) (byte f (i + 2)) (byte f (i + 3)) (fits _) (fits _) (fits _) (fits _) ∙ cc
+
+-- the bytes that `to_be_bytes` gives of a number that fits
+pub two : (x : ℕ) (r : List ℕ) → x < 65536 → r ≡ x / 256 % 256 ∷ x % 256 ∷ [] → r ≡ bytes16 x
+two x r h e = let q : x / 256 % 256 ≡ x / 256 = omega arith in e ∙ ap (λ n. n ∷ x % 256 ∷ []) q
+
+pub four : (x : ℕ) (r : List ℕ) → x < 4294967296 → r ≡ x / 16777216 % 256 ∷ x / 65536 % 256 ∷ x / 256 % 256 ∷ x % 256 ∷ [] → r ≡ bytes32 x
+four x r h e = let q : x / 16777216 % 256 ≡ x / 16777216 = omega arith in e ∙ ap (λ n. n ∷ x / 65536 % 256 ∷ x / 256 % 256 ∷ x % 256 ∷ []) q

@@ -11,7 +11,7 @@ use Rattle.packet.specs.Frames.{byte, link-layout, type-field}
 use Rattle.packet.proofs.Bytes.{part-bytes}
 
 -- an address, byte by byte
-address : (d : List ℕ) → length d ≡ 6 → map (byte d) (counting 0 6) ≡ d
+pub address : (d : List ℕ) → length d ≡ 6 → map (byte d) (counting 0 6) ≡ d
 address d h = part-bytes 6 0 d (omega arith) ∙ take-all 6 d (omega arith)
 
 pub link-laid : (p t v u : ℕ) (d s : List ℕ) → length d ≡ 6 → length s ≡ 6 → u ≡ type-field t → p / 256 ∷ p % 256 ∷ (map (byte d) (counting 0 6) ++ (map (byte s) (counting 0 6) ++ (u / 256 ∷ u % 256 ∷ v / 256 ∷ v % 256 ∷ []))) ≡ link-layout p d s t v

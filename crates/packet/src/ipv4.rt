@@ -6,7 +6,7 @@ ghost use lib.ListN.{length};
 ghost use Rattle.std.specs.Options.{Cases};
 ghost use mathlib.Core.List.{_++_};
 ghost use Rattle.packet.specs.Frames.{word, part, bytes16, bytes32, header-len, total-len, sound-ipv4, fragment, flags-field, port-fields, ipv4-fields, network-fields};
-ghost use Rattle.packet.specs.Layout.{fields-bytes};
+ghost use Rattle.packet.specs.Layout.{fields-bytes, put-at};
 
 // The lengths that a sound header gives, in bytes: the header's own, and the packet's.
 #[derive(Clone, Copy)]
@@ -162,29 +162,22 @@ pub fn network_fields(ethertype: u16, n: &[u8]) -> Ipv4Fields
 pub fn field_bytes(x: Ipv4Fields) -> [u8; 18]
     ensures { λ r. ⌜ r ≡ fields-bytes x ⌝ }
 {
-    let f = x.transport.flags;
-    let a = x.source;
-    let b = x.destination;
-    let s = x.transport.source_port;
-    let d = x.transport.destination_port;
-    [
-        x.fragment,
-        x.protocol,
-        x.tos,
-        x.ttl,
-        (f / 256) as u8,
-        (f % 256) as u8,
-        (a / 16777216) as u8,
-        (a / 65536 % 256) as u8,
-        (a / 256 % 256) as u8,
-        (a % 256) as u8,
-        (b / 16777216) as u8,
-        (b / 65536 % 256) as u8,
-        (b / 256 % 256) as u8,
-        (b % 256) as u8,
-        (s / 256) as u8,
-        (s % 256) as u8,
-        (d / 256) as u8,
-        (d % 256) as u8,
-    ]
+    let head = u32::from_be_bytes([x.fragment, x.protocol, x.tos, x.ttl]);
+    let mut out = [0u8; 18];
+    put(&mut out, 0, &head.to_be_bytes());
+    put(&mut out, 4, &x.transport.flags.to_be_bytes());
+    put(&mut out, 6, &x.source.to_be_bytes());
+    put(&mut out, 10, &x.destination.to_be_bytes());
+    put(&mut out, 14, &x.transport.source_port.to_be_bytes());
+    put(&mut out, 16, &x.transport.destination_port.to_be_bytes());
+    out
+}
+
+// Writes some bytes at a place; the rest stays.
+pub fn put(out: &mut [u8], at: usize, bytes: &[u8])
+    requires { ⌜ at + length (now bytes) ≤ length (now out) ⌝ }
+    ensures { λ _. ⌜ now (out .exit) ≡ put-at at (now (bytes .entry)) (now (out .entry)) ⌝ }
+{
+    let end = at + bytes.len();
+    out[at..end].copy_from_slice(bytes);
 }

@@ -17,6 +17,7 @@ use super::ipv4::Lengths;
 use super::ipv4::field_bytes;
 use super::ipv4::fragment_kind;
 use super::ipv4::network_fields;
+use super::ipv4::put;
 use super::ipv4::sound_lengths;
 use super::ipv4::word_at;
 
@@ -135,31 +136,13 @@ impl<'a> Reader<'a> {
     fn link_bytes(&self) -> [u8; 18]
         ensures { λ r. ⌜ r ≡ link-layout (now (self .entry) .«in_port») (now (self .entry) .destination) (now (self .entry) .source) (now (self .entry) .ethertype) (now (self .entry) .vlan) ⌝ }
     {
-        let p = self.in_port;
-        let d = self.destination;
-        let s = self.source;
-        let t = key_type(self.ethertype);
-        let v = self.vlan;
-        [
-            (p / 256) as u8,
-            (p % 256) as u8,
-            d[0],
-            d[1],
-            d[2],
-            d[3],
-            d[4],
-            d[5],
-            s[0],
-            s[1],
-            s[2],
-            s[3],
-            s[4],
-            s[5],
-            (t / 256) as u8,
-            (t % 256) as u8,
-            (v / 256) as u8,
-            (v % 256) as u8,
-        ]
+        let mut out = [0u8; 18];
+        put(&mut out, 0, &self.in_port.to_be_bytes());
+        put(&mut out, 2, &self.destination);
+        put(&mut out, 8, &self.source);
+        put(&mut out, 14, &key_type(self.ethertype).to_be_bytes());
+        put(&mut out, 16, &self.vlan.to_be_bytes());
+        out
     }
 }
 
