@@ -1,7 +1,8 @@
 // What an IPv4 packet adds to the key, from the network bytes.
 ghost use mathlib.Core.Path.{_≡_};
-ghost use mathlib.Core.Bool.{true, false};
-ghost use Prim.Native.Nat.{_+_, _<_, _≤_};
+ghost use mathlib.Core.Bool.{true, false, cond};
+ghost use lib.Dec.{eqb};
+ghost use Prim.Native.Nat.{_+_, _%_, _<_, _≤_};
 ghost use lib.ListN.{length};
 ghost use Rattle.std.specs.Options.{Cases};
 ghost use mathlib.Core.List.{_++_};
@@ -82,29 +83,46 @@ fn long_at(n: &[u8], i: usize) -> u32
     u32::from_be_bytes([n[i], n[i + 1], n[i + 2], n[i + 3]])
 }
 
+// How many bytes a protocol's header needs; more than a packet has, for a protocol without ports.
+fn header_length(protocol: u8) -> usize
+    ensures { λ r. ⌜ r ≡ cond (eqb protocol 6) 20 (cond (eqb protocol 17) 8 65536) ⌝ }
+{
+    match protocol {
+        6 => 20,
+        17 => 8,
+        _ => 65536,
+    }
+}
+
+// The flags of a TCP header, zero for UDP.
+fn flags_of(protocol: u8, t: &[u8]) -> u16
+    requires { ⌜ (protocol ≡ 6 → 20 ≤ length (now t)) ⌝ }
+    ensures { λ r. ⌜ r ≡ cond (eqb protocol 6) (word (now (t .entry)) 12 % 0x1000) 0 ⌝ }
+{
+    if protocol == 6 {
+        word_at(t, 12) % 0x1000
+    } else {
+        0
+    }
+}
+
 // The ports and the flags of a transport part, zero where its header is cut or of another protocol.
 fn transport_fields(protocol: u8, t: &[u8]) -> TransportFields
+    requires { ⌜ length (now t) < 65536 ⌝ }
     ensures flags { λ r. ⌜ bytes16 (r .flags) ≡ flags-field protocol (now (t .entry)) ⌝ }
     ensures ports { λ r. ⌜ bytes16 (r .«source_port») ++ bytes16 (r .«destination_port») ≡ port-fields protocol (now (t .entry)) ⌝ }
 {
-    if protocol == 6 && t.len() >= 20 {
-        TransportFields {
-            flags: word_at(t, 12) % 0x1000,
-            source_port: word_at(t, 0),
-            destination_port: word_at(t, 2),
-        }
-    } else if protocol == 17 && t.len() >= 8 {
-        TransportFields {
-            flags: 0,
-            source_port: word_at(t, 0),
-            destination_port: word_at(t, 2),
-        }
-    } else {
-        TransportFields {
+    if t.len() < header_length(protocol) {
+        return TransportFields {
             flags: 0,
             source_port: 0,
             destination_port: 0,
-        }
+        };
+    }
+    TransportFields {
+        flags: flags_of(protocol, t),
+        source_port: word_at(t, 0),
+        destination_port: word_at(t, 2),
     }
 }
 
