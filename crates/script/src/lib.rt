@@ -1,0 +1,3 @@
+// The text language of the program, and packet captures.
+pub mod hex;
+pub mod number;
