@@ -1,2 +1,3 @@
+pub mod Captures
 pub mod Hex
 pub mod Numbers

@@ -1,3 +1,4 @@
 // The text language of the program, and packet captures.
+pub mod capture;
 pub mod hex;
 pub mod number;
