@@ -1,3 +1,5 @@
 pub mod Captures
 pub mod Hex
+pub mod Lines
 pub mod Numbers
+pub mod Texts

@@ -2,3 +2,4 @@
 pub mod capture;
 pub mod hex;
 pub mod number;
+pub mod text;
