@@ -4,6 +4,4 @@ pub mod hex;
 pub mod number;
 pub mod run;
 pub mod statement;
-#[cfg(test)]
-mod tests;
 pub mod text;
