@@ -2,4 +2,5 @@ pub mod Captures
 pub mod Hex
 pub mod Lines
 pub mod Numbers
+pub mod Steps
 pub mod Texts

@@ -1,5 +1,10 @@
 // Packet captures: the classic pcap format, of either byte order, with Ethernet frames.
 ghost use mathlib.Core.Path.{_≡_};
+ghost use Prim.Native.Nat.{_≤_};
+ghost use lib.ListN.{take};
+ghost use Rattle.std.specs.Of.Vec.{vec-items, vec-len};
+ghost use Rattle.std.specs.Vec.{made};
+ghost use Rattle.script.specs.Steps.{Begins, Steps};
 ghost use Rattle.script.specs.Captures.{word-at, number-at, is-magic, order-by-magic, order-of, captured-of};
 use std::alloc::AllocError;
 use std::alloc::Global;
@@ -193,7 +198,9 @@ pub struct Capture {
 
 impl Capture {
     // Reads the file header.
-    pub fn open<R: Read>(heap: Global, input: &mut R) -> Result<Capture, CaptureFault> {
+    pub fn open<R: Read>(heap: Global, input: &mut R) -> Result<Capture, CaptureFault>
+        ensures { λ r. ⌜ made r (λ c. Begins c) ⌝ }
+    {
         let mut header = [0u8; FILE_HEADER];
         let got = match read_full(input, &mut header) {
             Ok(got) => got,
@@ -208,7 +215,9 @@ impl Capture {
     }
 
     // Reads the next frame; false where the file ends.
-    pub fn advance<R: Read>(&mut self, input: &mut R) -> Result<bool, CaptureFault> {
+    pub fn advance<R: Read>(&mut self, input: &mut R) -> Result<bool, CaptureFault>
+        ensures { λ r. ⌜ Steps (now (self .entry)) (now (self .exit)) r ⌝ }
+    {
         let record = self.records.saturating_add(1);
         let at = self.at;
         let mut header = [0u8; RECORD_HEADER];
@@ -241,7 +250,9 @@ impl Capture {
     }
 
     // The frame that was read last.
-    pub fn frame(&self) -> &[u8] {
+    pub fn frame(&self) -> &[u8]
+        ensures { λ r. ⌜ (now (self .entry) .len ≤ vec-len (now (self .entry) .buffer) → now r ≡ take (now (self .entry) .len) (vec-items (now (self .entry) .buffer))) ⌝ }
+    {
         match self.buffer.get(0..self.len) {
             Some(frame) => frame,
             None => &[],
@@ -249,7 +260,9 @@ impl Capture {
     }
 
     // Its number, counted from 1.
-    pub fn record(&self) -> u64 {
+    pub fn record(&self) -> u64
+        ensures { λ r. ⌜ r ≡ now (self .entry) .records ⌝ }
+    {
         self.records
     }
 }
