@@ -37,10 +37,19 @@ pub enum HeaderFault {
 pub impl fmt::Display for HeaderFault as HeaderFaultDisplay {
     fn fmt<W: fmt::Write>(&self, f: &mut fmt::Formatter<W>) -> fmt::Result {
         match self {
-            HeaderFault::Pcapng => write!(f, "this is a pcapng file; write it as a pcap file first"),
+            HeaderFault::Pcapng => write!(
+                f,
+                "this is a pcapng file; write it as a pcap file first"
+            ),
             HeaderFault::Magic(n) => write!(f, "no packet capture: the file begins with {n:#010x}"),
-            HeaderFault::Version(n) => write!(f, "the capture has format version {n}, only version 2 is read"),
-            HeaderFault::LinkType(n) => write!(f, "the capture has link type {n}, only 1 (Ethernet) is read"),
+            HeaderFault::Version(n) => write!(
+                f,
+                "the capture has format version {n}, only version 2 is read"
+            ),
+            HeaderFault::LinkType(n) => write!(
+                f,
+                "the capture has link type {n}, only 1 (Ethernet) is read"
+            ),
         }
     }
 }
@@ -129,11 +138,24 @@ pub enum CaptureFault {
     ShortHeader(usize),
     Header(HeaderFault),
     // the record's header has only so many bytes
-    CutHeader { record: u64, at: u64, got: usize },
+    CutHeader {
+        record: u64,
+        at: u64,
+        got: usize,
+    },
     // the record says this length
-    TooLong { record: u64, at: u64, captured: u32 },
+    TooLong {
+        record: u64,
+        at: u64,
+        captured: u32,
+    },
     // the record's frame has only so many bytes
-    CutFrame { record: u64, at: u64, captured: u32, got: usize },
+    CutFrame {
+        record: u64,
+        at: u64,
+        captured: u32,
+        got: usize,
+    },
 }
 
 pub impl fmt::Display for CaptureFault as CaptureFaultDisplay {
@@ -142,17 +164,38 @@ pub impl fmt::Display for CaptureFault as CaptureFaultDisplay {
             CaptureFault::Memory => write!(f, "no memory"),
             CaptureFault::Read(e, at) => write!(f, "byte {at}: {e}"),
             CaptureFault::ShortHeader(got) => {
-                write!(f, "byte 0: the file ends after {got} bytes, its header takes {FILE_HEADER}")
+                write!(
+                    f,
+                    "byte 0: the file ends after {got} bytes, its header takes {FILE_HEADER}"
+                )
             }
             CaptureFault::Header(fault) => write!(f, "byte 0: {fault}"),
             CaptureFault::CutHeader { record, at, got } => {
-                write!(f, "record {record} at byte {at}: the file ends after {got} of the header's {RECORD_HEADER} bytes")
+                write!(
+                    f,
+                    "record {record} at byte {at}: the file ends after {got} of the header's {RECORD_HEADER} bytes"
+                )
             }
-            CaptureFault::TooLong { record, at, captured } => {
-                write!(f, "record {record} at byte {at}: damaged: a length of {captured}, at most {LONGEST} is read")
+            CaptureFault::TooLong {
+                record,
+                at,
+                captured,
+            } => {
+                write!(
+                    f,
+                    "record {record} at byte {at}: damaged: a length of {captured}, at most {LONGEST} is read"
+                )
             }
-            CaptureFault::CutFrame { record, at, captured, got } => {
-                write!(f, "record {record} at byte {at}: the file ends after {got} of the frame's {captured} bytes")
+            CaptureFault::CutFrame {
+                record,
+                at,
+                captured,
+                got,
+            } => {
+                write!(
+                    f,
+                    "record {record} at byte {at}: the file ends after {got} of the frame's {captured} bytes"
+                )
             }
         }
     }
@@ -211,7 +254,13 @@ impl Capture {
         }
         let order = byte_order(&header)?;
         let buffer = vec![in heap; 0u8; LONGEST]?;
-        Ok(Capture { order, buffer, len: 0, records: 0, at: FILE_HEADER as u64 })
+        Ok(Capture {
+            order,
+            buffer,
+            len: 0,
+            records: 0,
+            at: FILE_HEADER as u64,
+        })
     }
 
     // Reads the next frame; false where the file ends.
@@ -234,14 +283,23 @@ impl Capture {
         let captured = captured(self.order, &header);
         let len = captured as usize;
         if len > self.buffer.len() {
-            return Err(CaptureFault::TooLong { record, at, captured });
+            return Err(CaptureFault::TooLong {
+                record,
+                at,
+                captured,
+            });
         }
         let got = match read_full(input, &mut self.buffer[0..len]) {
             Ok(got) => got,
             Err(e) => return Err(CaptureFault::Read(e, at)),
         };
         if got < len {
-            return Err(CaptureFault::CutFrame { record, at, captured, got });
+            return Err(CaptureFault::CutFrame {
+                record,
+                at,
+                captured,
+                got,
+            });
         }
         self.len = len;
         self.records = record;

@@ -19,9 +19,17 @@ pub enum RunFault {
     Memory,
     Write(io::Error),
     // the line, the path of a capture, and the system's error
-    Open { line: u64, path: String, error: io::Error },
+    Open {
+        line: u64,
+        path: String,
+        error: io::Error,
+    },
     // the line, the path of a capture, and what is wrong with it
-    Capture { line: u64, path: String, fault: CaptureFault },
+    Capture {
+        line: u64,
+        path: String,
+        fault: CaptureFault,
+    },
 }
 
 pub impl fmt::Display for RunFault as RunFaultDisplay {
@@ -74,7 +82,13 @@ fn capture_fault(rt: &LibcRuntime, line: u64, path: &str, fault: CaptureFault) -
 }
 
 // Answers each frame of a capture.
-fn run_keys(rt: &LibcRuntime, out: &mut Vec<u8>, line: u64, port: u16, path: &str) -> Result<(), RunFault> {
+fn run_keys(
+    rt: &LibcRuntime,
+    out: &mut Vec<u8>,
+    line: u64,
+    port: u16,
+    path: &str,
+) -> Result<(), RunFault> {
     let file = match fs::open(rt, path) {
         Ok(file) => file,
         Err(e) => return Err(open_fault(rt, line, path, e)),
@@ -108,7 +122,11 @@ fn run_statement(rt: &LibcRuntime, out: &mut Vec<u8>, numbered: &Numbered) -> Re
     }
 }
 
-fn run_statements(rt: &LibcRuntime, out: &mut Vec<u8>, script: &[Numbered]) -> Result<(), RunFault> {
+fn run_statements(
+    rt: &LibcRuntime,
+    out: &mut Vec<u8>,
+    script: &[Numbered],
+) -> Result<(), RunFault> {
     for numbered in script {
         run_statement(rt, out, numbered)?;
     }

@@ -1,4 +1,5 @@
 // The statements of a script, one to a line.
+ghost use Rattle.script.specs.Statements.{Says-port, Says-key, Says-keys};
 use super::hex::HexFault;
 use super::hex::HexFaultDebug;
 use super::hex::hex_bytes;
@@ -46,10 +47,19 @@ pub impl fmt::Display for LineFault as LineFaultDisplay {
             LineFault::Unknown(word) => write!(f, "unknown statement '{word}'"),
             LineFault::Missing(what) => write!(f, "{what} is missing"),
             LineFault::Extra(word) => write!(f, "'{word}' is one word too many"),
-            LineFault::Port(word) => write!(f, "'{word}' is no port: a decimal or 0x number of 16 bits"),
+            LineFault::Port(word) => write!(
+                f,
+                "'{word}' is no port: a decimal or 0x number of 16 bits"
+            ),
             LineFault::Hex(HexFault::Memory) => write!(f, "no memory"),
-            LineFault::Hex(HexFault::Odd(n)) => write!(f, "the frame has an odd number of hexadecimal digits, {n}"),
-            LineFault::Hex(HexFault::Digit(at)) => write!(f, "no hexadecimal digit in the frame, behind {at} digits"),
+            LineFault::Hex(HexFault::Odd(n)) => write!(
+                f,
+                "the frame has an odd number of hexadecimal digits, {n}"
+            ),
+            LineFault::Hex(HexFault::Digit(at)) => write!(
+                f,
+                "no hexadecimal digit in the frame, behind {at} digits"
+            ),
         }
     }
 }
@@ -57,12 +67,6 @@ pub impl fmt::Display for LineFault as LineFaultDisplay {
 impl From<AllocError> for LineFault as LineFaultFromAlloc {
     fn from(_e: AllocError) -> LineFault {
         LineFault::Memory
-    }
-}
-
-impl From<HexFault> for LineFault as LineFaultFromHex {
-    fn from(e: HexFault) -> LineFault {
-        LineFault::Hex(e)
     }
 }
 
@@ -81,34 +85,61 @@ pub impl fmt::Display for ScriptFault as ScriptFaultDisplay {
     }
 }
 
-fn parse_port(heap: Global, words: &mut SplitWhitespace<'_>) -> Result<u16, LineFault> {
-    let Some(word) = words.next() else {
-        return Err(LineFault::Missing("the port"));
-    };
+// The port that a word writes.
+fn port(heap: Global, word: &str) -> Result<u16, LineFault>
+    ensures { λ r. ⌜ Says-port (now (word .entry)) r ⌝ }
+{
     match number16(word) {
         Some(port) => Ok(port),
-        None => Err(LineFault::Port(String::from_str(heap, word)?)),
+        None => match String::from_str(heap, word) {
+            Ok(word) => Err(LineFault::Port(word)),
+            Err(_) => Err(LineFault::Memory),
+        },
+    }
+}
+
+// `key` of a port and the digits of a frame.
+fn key(heap: Global, port: u16, digits: &[u8]) -> Result<Statement, LineFault>
+    ensures { λ r. ⌜ Says-key port (now (digits .entry)) r ⌝ }
+{
+    match hex_bytes(heap, digits) {
+        Ok(frame) => Ok(Statement::Key { port, frame }),
+        Err(fault) => Err(LineFault::Hex(fault)),
+    }
+}
+
+// `keys` of a port and a path.
+fn keys(heap: Global, port: u16, word: &str) -> Result<Statement, LineFault>
+    ensures { λ r. ⌜ Says-keys port (now (word .entry)) r ⌝ }
+{
+    match String::from_str(heap, word) {
+        Ok(path) => Ok(Statement::Keys { port, path }),
+        Err(_) => Err(LineFault::Memory),
+    }
+}
+
+fn parse_port(heap: Global, words: &mut SplitWhitespace<'_>) -> Result<u16, LineFault> {
+    match words.next() {
+        Some(word) => port(heap, word),
+        None => Err(LineFault::Missing("the port")),
     }
 }
 
 // The frame may be absent, which is an empty one.
 fn parse_key(heap: Global, words: &mut SplitWhitespace<'_>) -> Result<Statement, LineFault> {
     let port = parse_port(heap, words)?;
-    let digits = match words.next() {
-        Some(word) => word.as_bytes(),
-        None => &[],
-    };
-    let frame = hex_bytes(heap, digits)?;
-    Ok(Statement::Key { port, frame })
+    match words.next() {
+        Some(word) => key(heap, port, word.as_bytes()),
+        None => key(heap, port, &[]),
+    }
 }
 
 fn parse_keys(heap: Global, words: &mut SplitWhitespace<'_>) -> Result<Statement, LineFault> {
     let port = parse_port(heap, words)?;
-    let Some(word) = words.next() else {
-        return Err(LineFault::Missing("the capture's path"));
-    };
-    let path = String::from_str(heap, word)?;
-    Ok(Statement::Keys { port, path })
+    match words.next() {
+        Some(word) => keys(heap, port, word),
+        None => Err(LineFault::Missing("the capture's path")),
+    }
 }
 
 // The statement of a line, or none where the line has only blanks and a comment.
@@ -141,7 +172,10 @@ pub fn parse(heap: Global, text: &str) -> Result<Vec<Numbered>, ScriptFault> {
         match parse_line(heap, code) {
             Ok(Some(statement)) => {
                 if script.push(Numbered { line, statement }).is_err() {
-                    return Err(ScriptFault { line, fault: LineFault::Memory });
+                    return Err(ScriptFault {
+                        line,
+                        fault: LineFault::Memory,
+                    });
                 }
             }
             Ok(None) => {}

@@ -41,7 +41,15 @@ fn put_hex(out: &mut Vec<u8>, high: u8, low: u8)
     ensures len { λ _. ⌜ vec-len (now (out .exit)) ≡ vec-len (now (out .entry)) + 4 ⌝ }
     ensures capacity { λ _. ⌜ vec-cap (now (out .entry)) ≤ vec-cap (now (out .exit)) ⌝ }
 {
-    put(out, &[digit(high / 16), digit(high % 16), digit(low / 16), digit(low % 16)]);
+    put(
+        out,
+        &[
+            digit(high / 16),
+            digit(high % 16),
+            digit(low / 16),
+            digit(low % 16),
+        ],
+    );
 }
 
 // The low 12 bits of a 16-bit number, by its two bytes, as three hexadecimal digits.
@@ -110,12 +118,23 @@ fn put_mac(out: &mut Vec<u8>, k: &Key, i: usize)
     put(
         out,
         &[
-            digit(a / 16), digit(a % 16), b':',
-            digit(b / 16), digit(b % 16), b':',
-            digit(c / 16), digit(c % 16), b':',
-            digit(d / 16), digit(d % 16), b':',
-            digit(e / 16), digit(e % 16), b':',
-            digit(f / 16), digit(f % 16),
+            digit(a / 16),
+            digit(a % 16),
+            b':',
+            digit(b / 16),
+            digit(b % 16),
+            b':',
+            digit(c / 16),
+            digit(c % 16),
+            b':',
+            digit(d / 16),
+            digit(d % 16),
+            b':',
+            digit(e / 16),
+            digit(e % 16),
+            b':',
+            digit(f / 16),
+            digit(f % 16),
         ],
     );
 }

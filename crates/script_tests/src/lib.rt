@@ -21,10 +21,22 @@ mod tests {
         let cases = [
             ("\n  kex 1 00 # no\n", "line 2: unknown statement 'kex'"),
             ("key", "line 1: the port is missing"),
-            ("key 65536", "line 1: '65536' is no port: a decimal or 0x number of 16 bits"),
-            ("key +1", "line 1: '+1' is no port: a decimal or 0x number of 16 bits"),
-            ("key 1 000", "line 1: the frame has an odd number of hexadecimal digits, 3"),
-            ("key 1 00\nkey 1 00g0", "line 2: no hexadecimal digit in the frame, behind 2 digits"),
+            (
+                "key 65536",
+                "line 1: '65536' is no port: a decimal or 0x number of 16 bits",
+            ),
+            (
+                "key +1",
+                "line 1: '+1' is no port: a decimal or 0x number of 16 bits",
+            ),
+            (
+                "key 1 000",
+                "line 1: the frame has an odd number of hexadecimal digits, 3",
+            ),
+            (
+                "key 1 00\nkey 1 00g0",
+                "line 2: no hexadecimal digit in the frame, behind 2 digits",
+            ),
             ("key 1 00 00", "line 1: '00' is one word too many"),
             ("keys 1 # x.pcap", "line 1: the capture's path is missing"),
         ];
@@ -66,14 +78,30 @@ mod tests {
     #[test]
     fn capture_headers(rt: LibcRuntime) -> Result<(), Fail> {
         let little = little();
-        check_eq(reading_of(&rt, &little)?.as_str(), "0 records, the last of 0 bytes")?;
-        check_eq(reading_of(&rt, &little[0..23])?.as_str(), "byte 0: the file ends after 23 bytes, its header takes 24")?;
-        let pcapng = b"\x0a\x0d\x0d\x0a\x1c\0\0\0\x4d\x3c\x2b\x1a\x01\0\0\0\xff\xff\xff\xff\xff\xff\xff\xff\x1c\0\0\0";
-        check_eq(reading_of(&rt, pcapng)?.as_str(), "byte 0: this is a pcapng file; write it as a pcap file first")?;
+        check_eq(
+            reading_of(&rt, &little)?.as_str(),
+            "0 records, the last of 0 bytes",
+        )?;
+        check_eq(
+            reading_of(&rt, &little[0..23])?.as_str(),
+            "byte 0: the file ends after 23 bytes, its header takes 24",
+        )?;
+        let pcapng =
+            b"\x0a\x0d\x0d\x0a\x1c\0\0\0\x4d\x3c\x2b\x1a\x01\0\0\0\xff\xff\xff\xff\xff\xff\xff\xff\x1c\0\0\0";
+        check_eq(
+            reading_of(&rt, pcapng)?.as_str(),
+            "byte 0: this is a pcapng file; write it as a pcap file first",
+        )?;
         let wifi = b"\xa1\xb2\xc3\xd4\0\x02\0\x04\0\0\0\0\0\0\0\0\0\x04\0\0\0\0\0\x69";
-        check_eq(reading_of(&rt, wifi)?.as_str(), "byte 0: the capture has link type 105, only 1 (Ethernet) is read")?;
+        check_eq(
+            reading_of(&rt, wifi)?.as_str(),
+            "byte 0: the capture has link type 105, only 1 (Ethernet) is read",
+        )?;
         let other = b"GIF89a..................";
-        check_eq(reading_of(&rt, other)?.as_str(), "byte 0: no packet capture: the file begins with 0x47494638")
+        check_eq(
+            reading_of(&rt, other)?.as_str(),
+            "byte 0: no packet capture: the file begins with 0x47494638",
+        )
     }
 
     // Two records, of three bytes and of two; the second's length is at byte 51.
@@ -85,13 +113,25 @@ mod tests {
     #[test]
     fn capture_records(rt: LibcRuntime) -> Result<(), Fail> {
         let mut file = records();
-        check_eq(reading_of(&rt, &file)?.as_str(), "2 records, the last of 2 bytes")?;
+        check_eq(
+            reading_of(&rt, &file)?.as_str(),
+            "2 records, the last of 2 bytes",
+        )?;
         let cut = reading_of(&rt, &file[0..60])?;
-        check_eq(cut.as_str(), "record 2 at byte 43: the file ends after 1 of the frame's 2 bytes")?;
+        check_eq(
+            cut.as_str(),
+            "record 2 at byte 43: the file ends after 1 of the frame's 2 bytes",
+        )?;
         let cut = reading_of(&rt, &file[0..58])?;
-        check_eq(cut.as_str(), "record 2 at byte 43: the file ends after 15 of the header's 16 bytes")?;
+        check_eq(
+            cut.as_str(),
+            "record 2 at byte 43: the file ends after 15 of the header's 16 bytes",
+        )?;
         file[52] = 4;
         let damaged = reading_of(&rt, &file)?;
-        check_eq(damaged.as_str(), "record 2 at byte 43: damaged: a length of 262146, at most 262144 is read")
+        check_eq(
+            damaged.as_str(),
+            "record 2 at byte 43: damaged: a length of 262146, at most 262144 is read",
+        )
     }
 }

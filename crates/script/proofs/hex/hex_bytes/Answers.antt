@@ -43,12 +43,13 @@ returns-in-Break-x c =
     ∙ two-on (vec-items (c .loop-i .out)) (c .args .text .now) (c .loop-i .i) (Err (c .in-Break-x .field-0 .0)) (omega arith) (c .in-Break-x .ensures tt)))
 
 pub loop-i-again : need.loop-i-again
-loop-i-again c =
-    (omega arith
-    , omega arith
-    , ap (λ z. pairs-from (c .loop-i .i + 2) z (drop (c .loop-i .i + 2) (c .args .text .now))) (c .in-Continue-push .ensures tt .items)
-    ∙ sym (two-on (vec-items (c .loop-i .out)) (c .args .text .now) (c .loop-i .i) (Ok (c .in-Continue-x .x)) (omega arith) (c .in-Continue-x .ensures tt))
-    ∙ c .loop-i .inv .2)
+loop-i-again c = (
+  omega arith,
+  omega arith,
+  ap (λ z. pairs-from (c .loop-i .i + 2) z (drop (c .loop-i .i + 2) (c .args .text .now))) (c .in-Continue-push .ensures tt .items)
+      ∙ sym (two-on (vec-items (c .loop-i .out)) (c .args .text .now) (c .loop-i .i) (Ok (c .in-Continue-x .x)) (omega arith) (c .in-Continue-x .ensures tt))
+      ∙ c .loop-i .inv .2,
+)
 
 pub returns : need.returns
 returns c =

@@ -41,7 +41,7 @@ pub returns : need.returns
 returns c =
     let e : c .as-bytes-bytes .result .now ≡ c .args .text .now = c .as-bytes-bytes .ensures .value in
     let same : afterPlus (c .as-bytes-bytes .result .now) ≡ c .as-bytes-bytes .result .now =
-        elim (c .else-bytes-gt0 .came) [ else-bytes-gt0·by·then-bytes-gt0·else-bytes-eq43 w ↦ plain (c .as-bytes-bytes .result .now) (w .if-bytes-eq43 .left) | else-bytes-gt0·by·else-bytes-gt0 w ↦ none (c .as-bytes-bytes .result .now) (w .if-bytes-gt0 .left) ]
+    elim (c .else-bytes-gt0 .came) [ else-bytes-gt0·by·then-bytes-gt0·else-bytes-eq43 w ↦ plain (c .as-bytes-bytes .result .now) (w .if-bytes-eq43 .left) | else-bytes-gt0·by·else-bytes-gt0 w ↦ none (c .as-bytes-bytes .result .now) (w .if-bytes-gt0 .left) ]
     in
     subst (Reads 64 (c .args .radix) (c .args .text .now)) (sym (c .ok .ensures .value))
     (at-text 64 (c .args .radix) (c .args .text .now) (afterPlus (c .args .text .now)) (c .from-str-radix .result) (subst (λ z. afterPlus z ≡ z) e same) (c .from-str-radix .ensures .reads))

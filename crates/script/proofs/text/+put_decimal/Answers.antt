@@ -19,14 +19,18 @@ push-reserved-requires-else-n-lt10 t c κs = omega (arith, length-step (c .args 
 
 pub returns-then-n-lt10 : need.returns-then-n-lt10
 returns-then-n-lt10 t c =
-    record { items = record { is = c .push-reserved .ensures .items ∙ ap (λ z. vec-items (c .args .out .now) ++ z) (sym (text-digit (c .args .n) (omega arith))) }
-    ; len = omega (arith, length-digit (c .args .n) (omega arith))
-    ; capacity = omega arith }
+    record {
+      items = record { is = c .push-reserved .ensures .items ∙ ap (λ z. vec-items (c .args .out .now) ++ z) (sym (text-digit (c .args .n) (omega arith))) };
+      len = omega (arith, length-digit (c .args .n) (omega arith));
+      capacity = omega arith;
+    }
 
 pub returns-else-n-lt10 : need.returns-else-n-lt10
 returns-else-n-lt10 t c =
-    record { items =
-        as-text (sym (text-step (c .args .n) (omega arith) (omega arith)))
-        (then (c .put-decimal .ensures .items) (record { is = c .push-reserved-else-n-lt10 .ensures .items }))
-    ; len = omega (arith, length-step (c .args .n) (omega arith) (omega arith))
-    ; capacity = omega arith }
+    record {
+      items =
+          as-text (sym (text-step (c .args .n) (omega arith) (omega arith)))
+          (then (c .put-decimal .ensures .items) (record { is = c .push-reserved-else-n-lt10 .ensures .items }));
+      len = omega (arith, length-step (c .args .n) (omega arith) (omega arith));
+      capacity = omega arith;
+    }

@@ -11,19 +11,23 @@ use Rattle.script.proofs.text.put_answer.Needs as need
 pub returns-in-Ok : need.returns-in-Ok
 returns-in-Ok c =
     let o = c .in-Ok .ensures tt .1 in
-    record { items =
-        as-text {a = vec-items (c .args .out .now)} {b = vec-items (c .put-reading .last .out)}
-        (read-text (c .args .port) (c .args .frame .now) (c .key .result) (mapped span-of (c .ipv4 .result)) (mapped span-of (c .transport .result)) (c .in-Ok .ensures tt .0) (c .key .ensures ∙ key-opened o)
-        (c .ipv4 .ensures ∙ ipv4-opened o) (c .transport .ensures ∙ transport-opened o))
-        (c .put-reading .ensures .items)
-    ; len = omega arith
-    ; capacity = omega arith }
+    record {
+      items =
+          as-text {a = vec-items (c .args .out .now)} {b = vec-items (c .put-reading .last .out)}
+          (read-text (c .args .port) (c .args .frame .now) (c .key .result) (mapped span-of (c .ipv4 .result)) (mapped span-of (c .transport .result)) (c .in-Ok .ensures tt .0) (c .key .ensures ∙ key-opened o)
+          (c .ipv4 .ensures ∙ ipv4-opened o) (c .transport .ensures ∙ transport-opened o))
+          (c .put-reading .ensures .items);
+      len = omega arith;
+      capacity = omega arith;
+    }
 
 pub returns-in-Err : need.returns-in-Err
 returns-in-Err c =
-    record { items =
-        as-text {a = vec-items (c .args .out .now)} {b = vec-items (c .put-refusal .last .out)}
-        (refused-text (c .args .port) (c .args .frame .now) (refusal-of (c .in-Err .fault)) (c .number .result) (c .detail .result) (c .in-Err .ensures tt) (c .number .ensures) (c .detail .ensures))
-        (c .put-refusal .ensures .items)
-    ; len = omega arith
-    ; capacity = omega arith }
+    record {
+      items =
+          as-text {a = vec-items (c .args .out .now)} {b = vec-items (c .put-refusal .last .out)}
+          (refused-text (c .args .port) (c .args .frame .now) (refusal-of (c .in-Err .fault)) (c .number .result) (c .detail .result) (c .in-Err .ensures tt) (c .number .ensures) (c .detail .ensures))
+          (c .put-refusal .ensures .items);
+      len = omega arith;
+      capacity = omega arith;
+    }

@@ -14,6 +14,8 @@ put-decimal-requires c κs = omega (arith, length-text 3 (c .from .result) (omeg
 
 pub returns : need.returns
 returns c =
-    record { items = as-text (ap decimal-text (c .from .ensures)) (c .put-decimal .ensures .items)
-    ; len = omega (arith, length-text 3 (c .from .result) (omega arith) (omega arith) (omega arith))
-    ; capacity = c .put-decimal .ensures .capacity }
+    record {
+      items = as-text (ap decimal-text (c .from .ensures)) (c .put-decimal .ensures .items);
+      len = omega (arith, length-text 3 (c .from .result) (omega arith) (omega arith) (omega arith));
+      capacity = c .put-decimal .ensures .capacity;
+    }

@@ -13,6 +13,8 @@ put-decimal-requires c κs = omega (arith, length-text 20 (c .args .n) (omega ar
 
 pub returns : need.returns
 returns c =
-    record { items = c .put-decimal .ensures .items
-    ; len = omega (arith, length-text 20 (c .args .n) (omega arith) (omega arith) (omega arith))
-    ; capacity = c .put-decimal .ensures .capacity }
+    record {
+      items = c .put-decimal .ensures .items;
+      len = omega (arith, length-text 20 (c .args .n) (omega arith) (omega arith) (omega arith));
+      capacity = c .put-decimal .ensures .capacity;
+    }

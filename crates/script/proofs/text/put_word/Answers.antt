@@ -15,6 +15,8 @@ put-decimal-requires c κs = omega (arith, length-text 5 (c .from .result * 256 
 pub returns : need.returns
 returns c =
     let e : c .from .result * 256 + c .from-2 .result ≡ c .args .high * 256 + c .args .low = omega arith in
-    record { items = as-text (ap decimal-text e) (c .put-decimal .ensures .items)
-    ; len = omega (arith, length-text 5 (c .from .result * 256 + c .from-2 .result) (omega arith) (omega arith) (omega arith))
-    ; capacity = c .put-decimal .ensures .capacity }
+    record {
+      items = as-text (ap decimal-text e) (c .put-decimal .ensures .items);
+      len = omega (arith, length-text 5 (c .from .result * 256 + c .from-2 .result) (omega arith) (omega arith) (omega arith));
+      capacity = c .put-decimal .ensures .capacity;
+    }
