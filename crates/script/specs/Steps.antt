@@ -16,6 +16,17 @@ pub record Begins (c : Capture) : Type 0 where
   pub at : c .at ≡ 24
   pub room : vec-len (c .buffer) ≡ 262144
 
+-- a file header that is cut, or refused, or could not be read at byte 0
+abbrev pub Opens : Result Capture CaptureFault → Type 0
+Opens (Ok c) = Begins c
+Opens (Err Memory) = Unit {0}
+Opens (Err (Read e at)) = at ≡ 0
+Opens (Err (ShortHeader got)) = got < 24
+Opens (Err (Header e)) = Unit {0}
+Opens (Err (CutHeader k at got)) = ⊥
+Opens (Err (TooLong k at captured)) = ⊥
+Opens (Err (CutFrame k at captured got)) = ⊥
+
 -- a sum of 64 bits that stops at the largest number
 abbrev pub up-to : ℕ → ℕ → ℕ
 up-to a b = min (a + b) (2 ^ 64 - 1)

@@ -3,8 +3,8 @@ ghost use mathlib.Core.Path.{_≡_};
 ghost use Prim.Native.Nat.{_≤_};
 ghost use lib.ListN.{take};
 ghost use Rattle.std.specs.Of.Vec.{vec-items, vec-len};
-ghost use Rattle.std.specs.Vec.{made};
-ghost use Rattle.script.specs.Steps.{Begins, Steps};
+ghost use Rattle.script.specs.declared.capture.CaptureFault.the-variants.{Memory, Header};
+ghost use Rattle.script.specs.Steps.{Opens, Steps};
 ghost use Rattle.script.specs.Captures.{word-at, number-at, is-magic, order-by-magic, order-of, captured-of};
 use std::alloc::AllocError;
 use std::alloc::Global;
@@ -202,12 +202,16 @@ pub impl fmt::Display for CaptureFault as CaptureFaultDisplay {
 }
 
 impl From<AllocError> for CaptureFault as CaptureFaultFromAlloc {
+    ghost converts = { λ _ r. r ≡ Memory };
+
     fn from(_e: AllocError) -> CaptureFault {
         CaptureFault::Memory
     }
 }
 
 impl From<HeaderFault> for CaptureFault as CaptureFaultFromHeader {
+    ghost converts = { λ e r. r ≡ Header e };
+
     fn from(e: HeaderFault) -> CaptureFault {
         CaptureFault::Header(e)
     }
@@ -242,7 +246,7 @@ pub struct Capture {
 impl Capture {
     // Reads the file header.
     pub fn open<R: Read>(heap: Global, input: &mut R) -> Result<Capture, CaptureFault>
-        ensures { λ r. ⌜ made r (λ c. Begins c) ⌝ }
+        ensures { λ r. ⌜ Opens r ⌝ }
     {
         let mut header = [0u8; FILE_HEADER];
         let got = match read_full(input, &mut header) {
