@@ -25,7 +25,7 @@ refusal-text number detail = codes "refused " ++ decimal-text number ++ codes " 
 
 -- a frame that is refused, or read
 abbrev pub outcome-text : ℕ → List ℕ → Option Refusal → List ℕ
-outcome-text port f (Some x) = refusal-text (x .number) (x .detail)
+outcome-text port f (Some x) = refusal-text (x .0) (x .1)
 outcome-text port f None = reading-text (key-of port f) (ipv4-of f) (transport-of f)
 
 -- what a frame that came in at a port reads as

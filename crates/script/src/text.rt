@@ -12,10 +12,9 @@ ghost use Rattle.packet.specs.Readings.{span-of};
 ghost use Rattle.script.specs.Texts.{Appended, hex-digit, hex-text, flags-text, decimal-text, mac-text, quad-text};
 ghost use Rattle.script.specs.Texts.{link-text, network-text, address-text, key-text};
 ghost use Rattle.script.specs.Lines.{part-text, reading-text, refusal-text, answer-text, place-text, line-text};
-use packet::FrameFault;
 use packet::Key;
 use packet::Part;
-use packet::Reader;
+use packet::read;
 use std::alloc::AllocError;
 
 fn put(out: &mut Vec<u8>, text: &[u8])
@@ -274,8 +273,8 @@ fn put_answer(out: &mut Vec<u8>, port: u16, frame: &[u8])
     ensures len { λ _. ⌜ vec-len (now (out .exit)) ≤ vec-len (now (out .entry)) + 325 ⌝ }
     ensures capacity { λ _. ⌜ vec-cap (now (out .entry)) ≤ vec-cap (now (out .exit)) ⌝ }
 {
-    match Reader::open(port, frame) {
-        Ok(reader) => put_reading(out, &reader.key(), reader.ipv4(), reader.transport()),
+    match read(port, frame) {
+        Ok(reading) => put_reading(out, &reading.key, reading.ipv4, reading.transport),
         Err(fault) => put_refusal(out, fault.number(), fault.detail()),
     }
 }

@@ -1,21 +1,19 @@
-use mathlib.Core.Path.{_∙_}
 use native.Mathlib.Omega.{arith}
 use Rattle.std.specs.Of.Vec.{vec-items}
 use Rattle.std.specs.Options.{mapped}
 use Rattle.packet.specs.Faults.{refusal-of}
 use Rattle.packet.specs.Readings.{span-of}
+use Rattle.script.proofs.Answered.{read-text, refused-text}
 use Rattle.script.proofs.Appends.{as-text}
-use Rattle.script.proofs.Opened.{key-opened, ipv4-opened, transport-opened, read-text, refused-text}
 use Rattle.script.proofs.text.put_answer.Needs as need
 
 pub returns-in-Ok : need.returns-in-Ok
 returns-in-Ok c =
-    let o = c .in-Ok .ensures tt .1 in
+    let h = c .in-Ok .ensures tt in
     record {
       items =
           as-text {a = vec-items (c .args .out .now)} {b = vec-items (c .put-reading .last .out)}
-          (read-text (c .args .port) (c .args .frame .now) (c .key .result) (mapped span-of (c .ipv4 .result)) (mapped span-of (c .transport .result)) (c .in-Ok .ensures tt .0) (c .key .ensures ∙ key-opened o)
-          (c .ipv4 .ensures ∙ ipv4-opened o) (c .transport .ensures ∙ transport-opened o))
+          (read-text (c .args .port) (c .args .frame .now) (c .in-Ok .reading .key) (mapped span-of (c .in-Ok .reading .ipv4)) (mapped span-of (c .in-Ok .reading .transport)) (h .0) (h .1) (h .2) (h .3))
           (c .put-reading .ensures .items);
       len = omega arith;
       capacity = omega arith;
