@@ -6,7 +6,6 @@ use super::hex::hex_bytes;
 use super::number::number16;
 use std::alloc::AllocError;
 use std::alloc::Global;
-use std::alloc::Refused;
 use std::fmt;
 use std::str::SplitWhitespace;
 
