@@ -1,10 +1,12 @@
 -- The next tables of rules that were found.
 use mathlib.Core.Path.{_≡_, refl, sym, _∙_, ap, subst}
-use mathlib.Core.List.{List, [], _∷_}
+use mathlib.Core.List.{List, [], _∷_, map}
 use mathlib.Core.Bool.{true}
 use Prim.Native.Nat.{ℕ, zero, suc, _+_, _<_, _≤_}
 use native.Mathlib.Omega.{arith}
-use lib.ListN.{length, getD, set}
+use lib.ListN.{length, getD, set, take, length-take}
+use Rattle.std.proofs.shelf.Elements.{all-getD}
+use Rattle.std.proofs.shelf.Lists.{getD-take, getD-map, map-set}
 use Rattle.std.proofs.shelf.Ways.{tells}
 use Rattle.std.specs.shelf.Lists.{All}
 use Rattle.std.specs.declared.option.Option.{Option}
@@ -12,7 +14,9 @@ use Rattle.std.specs.declared.option.Option.the-variants.{Some, None}
 use Rattle.classifier.specs.declared.rule.Rule.{Rule}
 use Rattle.classifier.specs.declared.rule.Match.{Match}
 use Rattle.classifier.specs.Rules.{found}
-use Rattle.datapath.specs.Walk.{Tables-of, table-of, good-next, Forward}
+use Rattle.classifier.specs.Tables.{credited}
+use Rattle.datapath.specs.declared.level.Mark.{Mark}
+use Rattle.datapath.specs.Walk.{Tables-of, table-of, good-next, Forward, credit-at}
 use Rattle.datapath.proofs.Counts.{found-has}
 
 -- each rule of a table has a good next one
@@ -38,3 +42,14 @@ found-next ts t k m h l e u = next-below (0 + t) (m .next) (found-has (λ x. goo
 pub none-since : (o : Option Match) → ((m : Match) → o ≡ Some m → ⊥) → o ≡ None
 none-since None h = refl
 none-since (Some m) h = absurd (h m refl)
+
+-- a crossed rule's table is one of the four
+pub low-at : (xs : List Mark) (n i : ℕ) (d : Mark) → All (λ m. m .table < 4) (take n xs) → i < n → i < length xs → getD xs i d .table < 4
+low-at xs n i d h l r =
+    let w : i < length (take n xs) = simp length-take (omega arith) in
+    subst (λ m. m .table < 4) (getD-take n xs i d l) (all-getD (λ m. m .table < 4) (take n xs) i d w h)
+
+-- crediting one rule of a table, through the owner's list
+pub credit-set : {X : Type 0} (f : X → List Rule) (xs : List X) (t : ℕ) (x y : X) (i n : ℕ) → t < length xs → f y ≡ credited (f (getD xs t x)) i n → map f (set xs t y) ≡ credit-at (map f xs) t i n
+credit-set f xs t x y i n l e =
+    map-set f xs t y ∙ ap (λ rs. set (map f xs) t rs) (e ∙ ap (λ rs. credited rs i n) (sym (getD-map f xs t x [] l)))

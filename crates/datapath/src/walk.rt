@@ -73,6 +73,22 @@ impl<C: Classifier> Tables<C> {
     }
 }
 
+impl<C: Classifier> Tables<C> {
+    // n more for each of the crossed rules.
+    pub fn credit_along(&mut self, walk: &Walk, n: u64)
+        requires four { ⌜ length (now self .classifiers) ≡ 4 ⌝ }
+        requires few { ⌜ now walk .len ≤ 4 ⌝ }
+        requires places { ⌜ All (λ m. m .table < 4) (take (now walk .len) (now walk .crossed)) ⌝ }
+        ensures kept { λ _. ⌜ length (now (self .exit) .classifiers) ≡ 4 ⌝ }
+        ensures counted { λ _. ⌜ map (C·Classifier .rules) (now (self .exit) .classifiers) ≡ credit-along (map (C·Classifier .rules) (now (self .entry) .classifiers)) (take (now (walk .entry) .len) (now (walk .entry) .crossed)) n ⌝ }
+    {
+        for i in 0..walk.len {
+            let mark = walk.crossed[i];
+            self.classifiers[usize::from(mark.table)].credit(mark.id, n);
+        }
+    }
+}
+
 // A place that no rule was crossed at.
 const NOWHERE: Mark = Mark {
     table: 0,
