@@ -6,7 +6,7 @@ use Prim.Native.Nat.{ℕ, zero, suc, _+_, _<_, _≤_}
 use native.Mathlib.Omega.{arith}
 use lib.ListN.{length, getD, set, take, length-take}
 use Rattle.std.proofs.shelf.Elements.{all-getD}
-use Rattle.std.proofs.shelf.Lists.{getD-take, getD-map, map-set}
+use Rattle.std.proofs.shelf.Lists.{getD-take, getD-map, map-set, set-getD}
 use Rattle.std.proofs.shelf.Ways.{tells}
 use Rattle.std.specs.shelf.Lists.{All}
 use Rattle.std.specs.declared.option.Option.{Option}
@@ -49,7 +49,15 @@ low-at xs n i d h l r =
     let w : i < length (take n xs) = simp length-take (omega arith) in
     subst (λ m. m .table < 4) (getD-take n xs i d l) (all-getD (λ m. m .table < 4) (take n xs) i d w h)
 
--- crediting one rule of a table, through the owner's list
+-- one table changed, through the owner's list
+pub change-set : {X : Type 0} (f : X → List Rule) (F : List Rule → List Rule) (xs : List X) (t : ℕ) (x y : X) → t < length xs → f y ≡ F (f (getD xs t x)) → map f (set xs t y) ≡ set (map f xs) t (F (table-of (map f xs) t))
+change-set f F xs t x y l e =
+    map-set f xs t y ∙ ap (λ rs. set (map f xs) t rs) (e ∙ ap F (sym (getD-map f xs t x [] l)))
+
+-- no table changed
+pub same-set : {X : Type 0} (f : X → List Rule) (xs : List X) (t : ℕ) (x y : X) → t < length xs → f y ≡ f (getD xs t x) → map f (set xs t y) ≡ map f xs
+same-set f xs t x y l e = change-set f (λ rs. rs) xs t x y l e ∙ set-getD (map f xs) t []
+
+-- crediting one rule of a table
 pub credit-set : {X : Type 0} (f : X → List Rule) (xs : List X) (t : ℕ) (x y : X) (i n : ℕ) → t < length xs → f y ≡ credited (f (getD xs t x)) i n → map f (set xs t y) ≡ credit-at (map f xs) t i n
-credit-set f xs t x y i n l e =
-    map-set f xs t y ∙ ap (λ rs. set (map f xs) t rs) (e ∙ ap (λ rs. credited rs i n) (sym (getD-map f xs t x [] l)))
+credit-set f xs t x y i n l e = change-set f (λ rs. credited rs i n) xs t x y l e
