@@ -88,8 +88,10 @@ higher-bump i n r (Some s) = prio ∙ pull (ltb (s .priority) (r .priority))
   where
     same : (x : Rule) → bump i n x .priority ≡ x .priority
     same x = elim (eqb (x .id) i) as (λ b. cond b (raised n x) x .priority ≡ x .priority) [ true ↦ refl | false ↦ refl ]
+
     prio : cond (ltb (bump i n s .priority) (bump i n r .priority)) (Some (bump i n r)) (Some (bump i n s)) ≡ cond (ltb (s .priority) (r .priority)) (Some (bump i n r)) (Some (bump i n s))
     prio = ap₂ (λ a b. cond (ltb a b) (Some (bump i n r)) (Some (bump i n s))) (same s) (same r)
+
     pull : (b : Bool) → cond b (Some (bump i n r)) (Some (bump i n s)) ≡ mapped (bump i n) (cond b (Some r) (Some s))
     pull true = refl
     pull false = refl

@@ -39,27 +39,30 @@ module _ (T : Tables-of) (k : List ℕ) (f t p : ℕ) (m : List ℕ) (xs : List 
   stop none =
       let w : walk-from (suc f) T t k ≡ [] = ap (λ o. crossing t o (λ u. walk-from f T u k)) none in
       record {
-          crossed = sym (append-nil xs) ∙ ap (λ x. xs ++ x) (sym w) ∙ s .crossed;
-          ports = sym (or-zero-r p) ∙ ap (λ x. bitOr p (ports-of x)) (sym w) ∙ s .ports;
-          mask = λ q b e. sym (s .mask q b (agree-left m fm k q e) (ap (λ o. crossing t o (λ u. walk-from f T u q)) (safe q b (agree-right m fm k q e) ∙ none) ∙ sym w)) }
+        crossed = sym (append-nil xs) ∙ ap (λ x. xs ++ x) (sym w) ∙ s .crossed;
+        ports = sym (or-zero-r p) ∙ ap (λ x. bitOr p (ports-of x)) (sym w) ∙ s .ports;
+        mask = λ q b e. sym (s .mask q b (agree-left m fm k q e) (ap (λ o. crossing t o (λ u. walk-from f T u q)) (safe q b (agree-right m fm k q e) ∙ none) ∙ sym w));
+      }
 
   pub last : (h : Match) → found (table-of T t) k ≡ Some h → h .next ≡ 0 → Over T k (bitOr p (h .ports)) (union m fm) (xs ++ mark-of t h ∷ [])
   unfolding ports-of walk-from Adequate Alike Tells
   last h some end =
       let w : (q : List ℕ) → found (table-of T t) q ≡ Some h → walk-from (suc f) T t q ≡ mark-of t h ∷ [] = λ q e. ap (λ o. crossing t o (λ u. walk-from f T u q)) e ∙ ap (λ b. mark-of t h ∷ cond b [] (walk-from f T (h .next) q)) (eq-eqb (h .next) 0 end) in
       record {
-          crossed = ap (λ x. xs ++ x) (sym (w k some)) ∙ s .crossed;
-          ports = ap (bitOr p) (sym (or-zero-r (h .ports))) ∙ ap (λ x. bitOr p (ports-of x)) (sym (w k some)) ∙ s .ports;
-          mask = λ q b e. sym (s .mask q b (agree-left m fm k q e) (w q (safe q b (agree-right m fm k q e) ∙ some) ∙ sym (w k some))) }
+        crossed = ap (λ x. xs ++ x) (sym (w k some)) ∙ s .crossed;
+        ports = ap (bitOr p) (sym (or-zero-r (h .ports))) ∙ ap (λ x. bitOr p (ports-of x)) (sym (w k some)) ∙ s .ports;
+        mask = λ q b e. sym (s .mask q b (agree-left m fm k q e) (w q (safe q b (agree-right m fm k q e) ∙ some) ∙ sym (w k some)));
+      }
 
   pub onward : (h : Match) → found (table-of T t) k ≡ Some h → (h .next ≡ 0 → ⊥) → Going T k f (h .next) (bitOr p (h .ports)) (union m fm) (xs ++ mark-of t h ∷ [])
   unfolding ports-of walk-from Adequate
   onward h some go =
       let w : (q : List ℕ) → found (table-of T t) q ≡ Some h → walk-from (suc f) T t q ≡ mark-of t h ∷ walk-from f T (h .next) q = λ q e. ap (λ o. crossing t o (λ u. walk-from f T u q)) e ∙ ap (λ b. mark-of t h ∷ cond b [] (walk-from f T (h .next) q)) (ne-eqb (h .next) 0 go) in
       record {
-          crossed = append-assoc xs (mark-of t h ∷ []) (walk-from f T (h .next) k) ∙ ap (λ x. xs ++ x) (sym (w k some)) ∙ s .crossed;
-          ports = or-assoc p (h .ports) (ports-of (walk-from f T (h .next) k)) ∙ ap (λ x. bitOr p (ports-of x)) (sym (w k some)) ∙ s .ports;
-          mask = λ q b e x. s .mask q b (agree-left m fm k q e) (w q (safe q b (agree-right m fm k q e) ∙ some) ∙ ap (λ y. mark-of t h ∷ y) x ∙ sym (w k some)) }
+        crossed = append-assoc xs (mark-of t h ∷ []) (walk-from f T (h .next) k) ∙ ap (λ x. xs ++ x) (sym (w k some)) ∙ s .crossed;
+        ports = or-assoc p (h .ports) (ports-of (walk-from f T (h .next) k)) ∙ ap (λ x. bitOr p (ports-of x)) (sym (w k some)) ∙ s .ports;
+        mask = λ q b e x. s .mask q b (agree-left m fm k q e) (w q (safe q b (agree-right m fm k q e) ∙ some) ∙ ap (λ y. mark-of t h ∷ y) x ∙ sym (w k some));
+      }
 
 pub over : (T : Tables-of) (k : List ℕ) (t p : ℕ) (m : List ℕ) (xs : List Mark) → Going T k 0 t p m xs → Over T k p m xs
 unfolding ports-of walk-from Alike Tells

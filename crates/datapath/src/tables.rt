@@ -3,6 +3,7 @@ ghost use mathlib.Core.Path.{_≡_};
 ghost use mathlib.Core.List.{[], map};
 ghost use Prim.Native.Nat.{_<_};
 ghost use lib.ListN.{length};
+ghost use Rattle.std.specs.Of.Vec.{vec-items};
 ghost use Rattle.std.specs.Results.{Cases};
 ghost use Rattle.std.specs.Vec.{made};
 ghost use Rattle.std.specs.declared.option.Option.the-variants.{Some, None};
@@ -23,7 +24,7 @@ use flow::MaskedKey;
 // Four tables, each with a classifier.
 #[derive(Drop)]
 pub struct Tables<C: Classifier> {
-    pub(crate) classifiers: [C; 4],
+    pub(crate) classifiers: Vec<C>,
 }
 
 // The place of a table, which is one of four.
@@ -50,9 +51,9 @@ fn check_action(table: u32, ports: u64, next: u16) -> Result<(), TablesFault>
 }
 
 pub impl<C: Classifier> Level for Tables<C> as TablesLevel {
-    ghost rules = { λ s. map (C·Classifier .rules) (s .classifiers) };
+    ghost rules = { λ s. map (C·Classifier .rules) (vec-items (s .classifiers)) };
 
-    ghost sound = { λ s. (length (s .classifiers) ≡ 4) × Forward 0 (map (C·Classifier .rules) (s .classifiers)) };
+    ghost sound = { λ s. (length (vec-items (s .classifiers)) ≡ 4) × Forward 0 (map (C·Classifier .rules) (vec-items (s .classifiers))) };
 
     ghost entries = { λ _. [] };
 
@@ -85,7 +86,8 @@ pub impl<C: Classifier> Level for Tables<C> as TablesLevel {
         let t = place(rule.table)?;
         let key = MaskedKey::from_row(&rule.mask, &rule.value)?;
         check_action(rule.table, rule.ports, rule.next)?;
-        self.classifiers[t].add(rule.id, rule.priority, &key, rule.ports, rule.next)?;
+        self.classifiers[t]
+            .add(rule.id, rule.priority, &key, rule.ports, rule.next)?;
         Ok(())
     }
 

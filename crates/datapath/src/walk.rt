@@ -3,6 +3,7 @@ ghost use mathlib.Core.Path.{_≡_};
 ghost use mathlib.Core.List.{map};
 ghost use Prim.Native.Nat.{_<_, _≤_};
 ghost use lib.ListN.{length, take};
+ghost use Rattle.std.specs.Of.Vec.{vec-items};
 ghost use Rattle.std.specs.shelf.Lists.{All};
 ghost use Rattle.datapath.specs.Walk.{Forward, walk, ports-of, Tells, credit-along};
 use super::level::Mark;
@@ -24,11 +25,11 @@ pub struct Walk {
 impl<C: Classifier> Tables<C> {
     // The walk of a key, from table 0 on. Changes nothing.
     pub fn walk(&self, key: &[u8; 36]) -> Walk
-        requires four { ⌜ length (now self .classifiers) ≡ 4 ⌝ }
-        requires forward { ⌜ Forward 0 (map (C·Classifier .rules) (now self .classifiers)) ⌝ }
-        ensures crossed { λ r. ⌜ take (r .len) (r .crossed) ≡ walk (map (C·Classifier .rules) (now (self .entry) .classifiers)) (now (key .entry)) ⌝ }
-        ensures ports { λ r. ⌜ r .ports ≡ ports-of (walk (map (C·Classifier .rules) (now (self .entry) .classifiers)) (now (key .entry))) ⌝ }
-        ensures mask { λ r. ⌜ Tells (map (C·Classifier .rules) (now (self .entry) .classifiers)) (now (key .entry)) (r .mask) ⌝ }
+        requires four { ⌜ length (vec-items (now self .classifiers)) ≡ 4 ⌝ }
+        requires forward { ⌜ Forward 0 (map (C·Classifier .rules) (vec-items (now self .classifiers))) ⌝ }
+        ensures crossed { λ r. ⌜ take (r .len) (r .crossed) ≡ walk (map (C·Classifier .rules) (vec-items (now (self .entry) .classifiers))) (now (key .entry)) ⌝ }
+        ensures ports { λ r. ⌜ r .ports ≡ ports-of (walk (map (C·Classifier .rules) (vec-items (now (self .entry) .classifiers))) (now (key .entry))) ⌝ }
+        ensures mask { λ r. ⌜ Tells (map (C·Classifier .rules) (vec-items (now (self .entry) .classifiers))) (now (key .entry)) (r .mask) ⌝ }
         ensures few { λ r. ⌜ r .len ≤ 4 ⌝ }
         ensures places { λ r. ⌜ All (λ m. m .table < 4) (take (r .len) (r .crossed)) ⌝ }
     {
@@ -76,11 +77,11 @@ impl<C: Classifier> Tables<C> {
 impl<C: Classifier> Tables<C> {
     // n more for each of the crossed rules.
     pub fn credit_along(&mut self, walk: &Walk, n: u64)
-        requires four { ⌜ length (now self .classifiers) ≡ 4 ⌝ }
+        requires four { ⌜ length (vec-items (now self .classifiers)) ≡ 4 ⌝ }
         requires few { ⌜ now walk .len ≤ 4 ⌝ }
         requires places { ⌜ All (λ m. m .table < 4) (take (now walk .len) (now walk .crossed)) ⌝ }
-        ensures kept { λ _. ⌜ length (now (self .exit) .classifiers) ≡ 4 ⌝ }
-        ensures counted { λ _. ⌜ map (C·Classifier .rules) (now (self .exit) .classifiers) ≡ credit-along (map (C·Classifier .rules) (now (self .entry) .classifiers)) (take (now (walk .entry) .len) (now (walk .entry) .crossed)) n ⌝ }
+        ensures kept { λ _. ⌜ length (vec-items (now (self .exit) .classifiers)) ≡ 4 ⌝ }
+        ensures counted { λ _. ⌜ map (C·Classifier .rules) (vec-items (now (self .exit) .classifiers)) ≡ credit-along (map (C·Classifier .rules) (vec-items (now (self .entry) .classifiers))) (take (now (walk .entry) .len) (now (walk .entry) .crossed)) n ⌝ }
     {
         for i in 0..walk.len {
             let mark = walk.crossed[i];

@@ -2,6 +2,7 @@ use mathlib.Core.Path.{_≡_, refl, sym, ap, subst, _∙_}
 use mathlib.Core.List.{map}
 use lib.ListN.{length}
 use Rattle.std.proofs.shelf.Lists.{length-map}
+use Rattle.std.specs.Of.Vec.{vec-items}
 use Rattle.datapath.specs.Walk.{Forward, credit-along, due}
 use Rattle.datapath.proofs.Forwards.{forward-along}
 use Rattle.datapath.proofs.tables.TablesLevel.credit.Needs as need
@@ -9,9 +10,11 @@ use Rattle.datapath.proofs.tables.TablesLevel.credit.Needs as need
 pub returns : need.returns
 unfolding due
 returns g c =
-    let ts = map (g .C·Classifier .rules) (c .args .self .now .classifiers) in
+    let ts = map (g .C·Classifier .rules) (vec-items (c .args .self .now .classifiers)) in
     let w = c .walk-walk .ensures in
     let a = c .credit-along .ensures in
     let four : length ts ≡ 4 = simp length-map (c .pre .0) in
-    record { kept = (a .kept, subst (Forward 0) (sym (a .counted)) (forward-along _ ts (c .args .n) (c .pre .1) (w .places) four))
-    ; counted = a .counted ∙ ap (λ x. credit-along ts x (c .args .n)) (w .crossed) }
+    record {
+      kept = (a .kept, subst (Forward 0) (sym (a .counted)) (forward-along _ ts (c .args .n) (c .pre .1) (w .places) four));
+      counted = a .counted ∙ ap (λ x. credit-along ts x (c .args .n)) (w .crossed);
+    }
