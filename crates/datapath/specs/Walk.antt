@@ -21,6 +21,11 @@ use Rattle.datapath.specs.declared.level.Mark.{Mark}
 abbrev pub Tables-of : Type 0
 Tables-of = List (List Rule)
 
+-- four tables without a rule
+abbrev pub no-rules : Tables-of
+no-rules = [] ∷ [] ∷ [] ∷ [] ∷ []
+
+-- the rules of one table
 abbrev pub table-of : Tables-of → ℕ → List Rule
 table-of ts t = getD ts t []
 

@@ -9,7 +9,7 @@ ghost use Rattle.std.specs.Vec.{made};
 ghost use Rattle.std.specs.declared.option.Option.the-variants.{Some, None};
 ghost use Rattle.datapath.specs.Calls.{table-refusal, action-refusal};
 ghost use Rattle.datapath.specs.Faults.{refusal-of};
-ghost use Rattle.datapath.specs.Walk.{Forward};
+ghost use Rattle.datapath.specs.Walk.{Forward, no-rules};
 use super::fault::TablesFault;
 use super::fault::TablesFromClassifier;
 use super::fault::TablesFromOutside;
@@ -20,11 +20,27 @@ use super::level::RuleRecord;
 use super::walk::Walk;
 use classifier::Classifier;
 use flow::MaskedKey;
+use std::alloc::AllocError;
+use std::alloc::Global;
 
 // Four tables, each with a classifier.
 #[derive(Drop)]
 pub struct Tables<C: Classifier> {
     pub(crate) classifiers: Vec<C>,
+}
+
+impl<C: Classifier + Drop> Tables<C> {
+    // Four tables without a rule, each with a classifier of this kind. All memory is taken here.
+    pub fn new(heap: Global, kind: C::Kind) -> Result<Tables<C>, AllocError>
+        ensures empty { λ r. ⌜ made r (λ s. map (C·Classifier .rules) (vec-items (s .classifiers)) ≡ no-rules) ⌝ }
+        ensures sound { λ r. ⌜ made r (λ s. (length (vec-items (s .classifiers)) ≡ 4) × Forward 0 (map (C·Classifier .rules) (vec-items (s .classifiers)))) ⌝ }
+    {
+        let mut classifiers = Vec::with_capacity(heap, 4)?;
+        for _ in 0..4usize {
+            classifiers.push(C::new(heap, kind)?)?;
+        }
+        Ok(Tables { classifiers })
+    }
 }
 
 // The place of a table, which is one of four.
