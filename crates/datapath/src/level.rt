@@ -1,7 +1,7 @@
 // The interface of a level: it means the rules of the four tables, each with its due count.
 ghost use mathlib.Core.Path.{_≡_};
 ghost use mathlib.Core.List.{List};
-ghost use Prim.Native.Nat.{ℕ};
+ghost use Prim.Native.Nat.{ℕ, _≤_};
 ghost use Rattle.std.specs.Results.{Cases};
 ghost use Rattle.std.specs.declared.option.Option.the-variants.{Some, None};
 ghost use Rattle.classifier.specs.declared.rule.Rule.{Rule};
@@ -82,6 +82,7 @@ pub trait Level {
         ensures ports { λ r. ⌜ r .ports ≡ ports-of (walk (rules (now (self .entry))) (now (key .entry))) ⌝ }
         ensures mask { λ r. ⌜ Tells (rules (now (self .entry))) (now (key .entry)) (r .mask) ⌝ }
         ensures counted { λ _. ⌜ rules (now (self .exit)) ≡ due (rules (now (self .entry))) (now (key .entry)) 1 ⌝ }
+        ensures deep { λ r. ⌜ 1 ≤ r .depth ⌝ }
         ensures hit { λ r. ⌜ (holds (now (self .entry)) (now (key .entry)) → r .depth ≡ 1) ⌝ }
         ensures installed { λ _. ⌜ (installs → holds (now (self .exit)) (now (key .entry))) ⌝ };
 

@@ -1,5 +1,6 @@
 use mathlib.Core.Path.{_≡_, refl, sym, ap, subst, _∙_}
 use mathlib.Core.List.{map}
+use native.Mathlib.Omega.{arith}
 use lib.ListN.{length}
 use Rattle.std.proofs.shelf.Lists.{length-map}
 use Rattle.std.specs.Of.Vec.{vec-items}
@@ -19,6 +20,7 @@ returns g c =
       ports = w .ports;
       mask = w .mask;
       counted = a .counted ∙ ap (λ x. credit-along ts x 1) (w .crossed);
+      deep = omega arith;
       hit = λ _. refl;
       installed = λ _. tt;
     }
