@@ -1,3 +1,4 @@
 pub mod Rules
 pub mod Tables
 pub mod Faults
+pub mod Stores
