@@ -1,2 +1,6 @@
 pub mod Inserts
 pub mod ByIdLaws
+pub mod BestLaws
+pub mod RankLaws
+pub mod Laws
+pub mod StandingLaws

@@ -2,3 +2,4 @@ pub mod Rules
 pub mod Tables
 pub mod Faults
 pub mod Stores
+pub mod Laws
