@@ -18,7 +18,7 @@ use Rattle.flow.proofs.OverlapLaws.{overlapping-from-both, overlapping-sym}
 use Rattle.classifier.specs.declared.rule.Rule.{Rule}
 use Rattle.classifier.specs.Rules.{matches, clashing, higher, best, Apart}
 use Rattle.classifier.specs.Tables.{added}
-use Rattle.classifier.specs.Stores.{by-id}
+use Rattle.classifier.specs.Stores.{by-id, first-match}
 use Rattle.classifier.proofs.Inserts.{Pairs}
 use Rattle.classifier.proofs.ByIdLaws.{added-cases, all-by-id}
 
@@ -99,11 +99,6 @@ unfolding by-id best
 best-by-id [] k h = refl
 best-by-id (x ∷ xs) k h =
     best-added (by-id xs) x k (all-by-id (Untied x) xs (h .0)) ∙ ap (λ o. cond (matches x k) (higher x o) o) (best-by-id xs k (h .1))
-
--- the first rule that matches
-abbrev pub first-match : List Rule → List ℕ → Option Rule
-first-match [] k = None
-first-match (r ∷ rs) k = cond (matches r k) (Some r) (first-match rs k)
 
 -- none, or one of lower priority than p
 abbrev Under : ℕ → Option Rule → Type 0

@@ -4,3 +4,5 @@ pub mod BestLaws
 pub mod RankLaws
 pub mod Laws
 pub mod StandingLaws
+pub mod ScanLaws
+pub mod PlaceLaws

@@ -6,7 +6,9 @@ use mathlib.Core.Logic.{_⊎_, inl, inr, ⊎-elim}
 use Prim.Native.Nat.{ℕ, zero, suc, _<_, _≤_}
 use native.Mathlib.Omega.{arith}
 use lib.Dec.{eqb, ltb}
-use lib.ListN.{length}
+use lib.ListN.{length, take, getD}
+use Rattle.std.specs.Holes.{inserted}
+use Rattle.std.proofs.shelf.Lists.{getD-default, take-all}
 use Rattle.std.specs.shelf.Lists.{All}
 use Rattle.std.specs.Options.{mapped}
 use Rattle.std.specs.declared.option.Option.{Option}
@@ -18,11 +20,11 @@ use Rattle.flow.proofs.MaskLaws.{within-refl, within-trans, within-left, within
 use Rattle.flow.proofs.WholeLaws.{empty-bytes}
 use Rattle.classifier.specs.declared.rule.Rule.{Rule}
 use Rattle.classifier.specs.Rules.{matches, clashing, best, named, found, bits-of, Adequate, Find-mask, Sound-rule}
-use Rattle.classifier.specs.Tables.{added, clash}
-use Rattle.classifier.specs.Stores.{by-id, before, ranked, by-rank, looked-at, linear-mask}
-use Rattle.classifier.proofs.Inserts.{Pairs, put, length-put, all-put, pairs-put, sorted-put, put-front, put-comm}
-use Rattle.classifier.proofs.ByIdLaws.{Other, added-cases, all-by-id, bits-of-by-id, lesser, hit, least-clash, clash-by-id}
-use Rattle.classifier.proofs.BestLaws.{Untied, first-match, best-by-id, best-is-first, matches-alike}
+use Rattle.classifier.specs.Tables.{added, clash, stands}
+use Rattle.classifier.specs.Stores.{by-id, first-match, before, ranked, by-rank, looked-at, linear-mask}
+use Rattle.classifier.proofs.Inserts.{Pairs, put, length-put, all-put, pairs-put, sorted-put, put-front, put-comm, inserted-put, inserted-last}
+use Rattle.classifier.proofs.ByIdLaws.{Other, fresh-from-stands, stands-from-fresh, added-comm, added-cases, all-by-id, bits-of-by-id, lesser, hit, least-clash, clash-by-id}
+use Rattle.classifier.proofs.BestLaws.{Untied, best-by-id, best-is-first, matches-alike}
 
 -- the order ------------------------------------------------------------------------------------------------
 
@@ -72,6 +74,15 @@ unfolding ranked
 ranked-put [] r = refl
 ranked-put (s ∷ rs) r = ap (λ ys. cond (before r s) (r ∷ s ∷ rs) (s ∷ ys)) (ranked-put rs r)
 
+-- the place of an insertion, as a search finds it
+pub inserted-ranked : (xs : List Rule) (i : ℕ) (r d : Rule) → i < length xs → All (λ s. before r s ≡ false) (take i xs) → before r (getD xs i d) ≡ true → inserted xs i r ≡ ranked xs r
+inserted-ranked xs i r d h p q =
+    inserted-put before xs i r h p (λ e. subst (λ s. before r s ≡ true) (getD-default xs i d e h) q) ∙ sym (ranked-put xs r)
+
+pub inserted-ranked-last : (xs : List Rule) (i : ℕ) (r : Rule) → i ≡ length xs → All (λ s. before r s ≡ false) (take i xs) → inserted xs (length xs) r ≡ ranked xs r
+inserted-ranked-last xs i r e p =
+    inserted-last before xs r (subst (All (λ s. before r s ≡ false)) (take-all i xs (omega arith)) p) ∙ sym (ranked-put xs r)
+
 pub ranked-comm : (rs : List Rule) (a b : Rule) → Other a b → ranked (ranked rs a) b ≡ ranked (ranked rs b) a
 ranked-comm rs a b ne =
     ap (λ ys. ranked ys b) (ranked-put rs a) ∙ ranked-put (put before rs a) b
@@ -92,6 +103,15 @@ by-rank-by-id [] h o = refl
 by-rank-by-id (x ∷ xs) h o =
     by-rank-added (by-id xs) x (all-by-id (Other x) xs (h .0)) ∙ ap (λ ys. ranked ys x) (by-rank-by-id xs (h .1) (o .1))
     ∙ ranked-put xs x ∙ put-front before xs x (o .0)
+
+-- one more rule in the order of looking is one more by id
+pub by-id-ranked : (xs : List Rule) (r : Rule) → stands xs (r .id) ≡ false → by-id (ranked xs r) ≡ added (by-id xs) r
+unfolding by-id ranked
+by-id-ranked [] r h = refl
+by-id-ranked (x ∷ xs) r h =
+    let o = fresh-from-stands (x ∷ xs) r h in
+    cond-both (before r x) (r ∷ x ∷ xs) (x ∷ ranked xs r) (λ ys. by-id ys ≡ added (by-id (x ∷ xs)) r) (λ _. refl)
+    (λ _. ap (λ ys. added ys x) (by-id-ranked xs r (stands-from-fresh xs r (o .1))) ∙ added-comm (by-id xs) r x (o .0))
 
 -- in the order of looking the priorities fall
 pub falling : (xs : List Rule) → Pairs (λ r s. before r s ≡ true) xs → Pairs (λ r s. s .priority ≤ r .priority) xs

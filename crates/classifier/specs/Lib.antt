@@ -3,3 +3,4 @@ pub mod Tables
 pub mod Faults
 pub mod Stores
 pub mod Laws
+pub mod Places

@@ -2,14 +2,16 @@
 use mathlib.Core.Path.{_≡_}
 use mathlib.Core.Bool.{Bool, true, false, cond, _&&_, _||_, not}
 use mathlib.Core.List.{List, [], _∷_}
-use Prim.Native.Nat.{ℕ, _^_}
+use Prim.Native.Nat.{ℕ, _<_, _^_}
 use lib.Dec.{eqb, ltb, leb}
-use lib.ListN.{length}
+use lib.ListN.{length, getD}
+use Rattle.std.specs.declared.option.Option.{Option}
+use Rattle.std.specs.declared.option.Option.the-variants.{Some, None}
 use Rattle.std.specs.shelf.Lawful.{all-pass}
 use Rattle.flow.specs.Masks.{inside, union, empty-mask}
 use Rattle.classifier.specs.declared.rule.Rule.{Rule}
 use Rattle.classifier.specs.Rules.{matches, clashing}
-use Rattle.classifier.specs.Tables.{added}
+use Rattle.classifier.specs.Tables.{added, stands}
 
 -- the rules of a store, by rising id
 unfoldable pub by-id : List Rule → List Rule
@@ -30,6 +32,11 @@ unfoldable pub by-rank : List Rule → List Rule
 by-rank [] = []
 by-rank (r ∷ rs) = ranked (by-rank rs) r
 
+-- the first rule that matches
+abbrev pub first-match : List Rule → List ℕ → Option Rule
+first-match [] k = None
+first-match (r ∷ rs) k = cond (matches r k) (Some r) (first-match rs k)
+
 -- the bits of the rules down to the first that matches
 unfoldable pub looked-at : List Rule → List ℕ → List ℕ
 looked-at [] k = empty-mask
@@ -38,6 +45,12 @@ looked-at (r ∷ rs) k = cond (matches r k) (r .mask) (union (r .mask) (looked-a
 -- the mask of a linear classifier's find
 unfoldable pub linear-mask : List Rule → List ℕ → List ℕ
 linear-mask rs k = looked-at (by-rank rs) k
+
+-- the rule of this id stands at place p
+pub record Stands-at (rs : List Rule) (i p : ℕ) : Type 0 where
+  pub within : p < length rs
+  pub there : (d : Rule) → getD rs p d .id ≡ i
+  pub test : stands rs i ≡ true
 
 -- What a linear classifier's store keeps, as tests ------------------------------------------------------------
 
