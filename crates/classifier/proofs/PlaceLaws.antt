@@ -6,6 +6,7 @@ use Prim.Native.Nat.{ℕ, zero, suc, _<_, _+_}
 use native.Mathlib.Omega.{arith}
 use lib.ListN.{length, getD, set, take, drop}
 use Rattle.std.specs.Holes as holes
+use Rattle.std.specs.Options.{mapped}
 use Rattle.std.specs.shelf.Lists.{All}
 use Rattle.std.specs.declared.option.Option.{Option}
 use Rattle.std.specs.declared.option.Option.the-variants.{Some, None}
@@ -20,7 +21,7 @@ use Rattle.classifier.specs.Stores.{by-id, ranked, standing, sound-test, Stand
 use Rattle.classifier.specs.Places.{Absent, Placed, admission}
 use Rattle.classifier.proofs.Inserts.{Pairs}
 use Rattle.classifier.proofs.ByIdLaws.{Other, stands-by-id, length-by-id, by-id-insert, by-id-remove, by-id-credit, credited-at, credited-missing, count-of-by-id, count-at}
-use Rattle.classifier.proofs.RankLaws.{by-id-ranked, looked-long, linear-mask-by-id, find-mask-looked}
+use Rattle.classifier.proofs.RankLaws.{by-id-ranked, found-by-id, looked-long, linear-mask-by-id, find-mask-looked}
 use Rattle.classifier.proofs.Laws.{Admitted, admitted}
 use Rattle.classifier.proofs.StandingLaws.{Stored, stored-from-test, test-from-stored, sound-from-test, stored-ranked, stored-removed, stored-credited, add-refusal-stored}
 
@@ -72,30 +73,37 @@ pub add-refusal-is : (rs : List Rule) (new : Rule) → add-refusal rs new ≡ ad
 unfolding add-refusal
 add-refusal-is rs new = refl
 
+-- the refusal by id, from the three tests over the store
+pub refusal-from : (xs ys : List Rule) (new r : Rule) (o : Option Refusal) → standing xs ≡ true → ys ≡ xs → new ≡ r → admission (stands ys (new .id)) (length ys) (clash ys new) new ≡ o → add-refusal (by-id xs) r ≡ o
+refusal-from xs ys new r o ok e f h =
+    ap (add-refusal (by-id xs)) (sym f) ∙ add-refusal-stored xs new (stored-from-test xs ok) ∙ ap (λ zs. add-refusal zs new) (sym e) ∙ add-refusal-is ys new ∙ h
+
 -- what an insertion at the place of the rank makes
 pub record Grown (xs ys : List Rule) (new : Rule) : Type 0 where
   pub rules : by-id ys ≡ added (by-id xs) new
   pub stands-still : standing ys ≡ true
 
-pub grown-from : (xs ys : List Rule) (new : Rule) → standing xs ≡ true → Sound-rule new → add-refusal (by-id xs) new ≡ None → ys ≡ ranked xs new → Grown xs ys new
+pub grown-from : (xs ys : List Rule) (new : Rule) → standing xs ≡ true → sound-test new ≡ true → add-refusal (by-id xs) new ≡ None → ys ≡ ranked xs new → Grown xs ys new
 grown-from xs ys new ok sd h e =
     let t = stored-from-test xs ok in
     let a = admitted xs new (sym (add-refusal-stored xs new t) ∙ h) in
     record {
       rules = ap by-id e ∙ by-id-ranked xs new (a .fresh);
-      stands-still = subst (λ zs. standing zs ≡ true) (sym e) (test-from-stored (ranked xs new) (stored-ranked xs new t sd (a .fresh) (a .room) (a .alone)));
+      stands-still = subst (λ zs. standing zs ≡ true) (sym e) (test-from-stored (ranked xs new) (stored-ranked xs new t (sound-from-test new sd) (a .fresh) (a .room) (a .alone)));
     }
 
 -- what a search down the order finds
-pub record Looked (xs : List Rule) (k m : List ℕ) : Type 0 where
-  pub tells : Find-mask (by-id xs) k m
+pub record Looked (xs : List Rule) (k : List ℕ) (o : Option Rule) (m : List ℕ) : Type 0 where
+  pub rule : mapped named o ≡ found (by-id xs) k
+  pub mask : Find-mask (by-id xs) k m
   pub exact : m ≡ linear-mask (by-id xs) k
 
-pub looked-from : (xs : List Rule) (k m : List ℕ) → standing xs ≡ true → m ≡ union empty-mask (looked-at xs k) → Looked xs k m
-looked-from xs k m ok e =
+pub looked-from : (xs : List Rule) (k : List ℕ) (o : Option Rule) (m : List ℕ) → standing xs ≡ true → first-match xs k ≡ o → m ≡ union empty-mask (looked-at xs k) → Looked xs k o m
+looked-from xs k o m ok g e =
     let t = stored-from-test xs ok in
     let f = e ∙ empty-union (looked-at xs k) (looked-long xs k (t .sound)) in
     record {
-      tells = subst (Find-mask (by-id xs) k) (sym f) (find-mask-looked xs k (t .untied) (t .ordered));
+      rule = sym (found-by-id xs k (t .untied) (t .ordered) ∙ ap (mapped named) g);
+      mask = subst (Find-mask (by-id xs) k) (sym f) (find-mask-looked xs k (t .untied) (t .ordered));
       exact = f ∙ sym (linear-mask-by-id xs k (t .other) (t .ordered));
     }

@@ -15,10 +15,10 @@ use Rattle.std.specs.declared.option.Option.the-variants.{Some, None}
 use Rattle.std.proofs.shelf.Tests.{and-parts, and-from, eqb-true, eqb-false, eq-eqb, ne-eqb, ltb-true, lt-ltb, leb-true, le-leb, not-true, not-from-false, cases-bool}
 use Rattle.std.proofs.shelf.Elements.{all-from-getD}
 use Rattle.std.proofs.shelf.Edits.{length-removed}
-use Rattle.flow.specs.Masks.{Bytes36, inside}
+use Rattle.flow.specs.Masks.{Bytes36, Within, inside}
 use Rattle.flow.proofs.MaskLaws.{inside-decides}
 use Rattle.classifier.specs.declared.rule.Rule.{Rule}
-use Rattle.classifier.specs.Rules.{clashing, Sound-rule, Lawful}
+use Rattle.classifier.specs.Rules.{clashing, Sound-rule, Lawful, new-rule}
 use Rattle.classifier.specs.Tables.{stands, clash, add-refusal, clash-refusal, raised, credited}
 use Rattle.classifier.specs.Stores.{by-id, before, ranked, bytes-test, sound-test, pair-test, pairs-test, standing}
 use Rattle.classifier.proofs.Inserts.{Pairs, all-removed, pairs-removed, pairs-weaker}
@@ -57,7 +57,7 @@ bytes-from-test xs h =
       bytes = each-byte xs (all-from-pass (λ b. ltb b 256) (λ b. b < 256) (λ b e. ltb-true b 256 e) xs (q .1));
     }
 
-test-from-bytes : (xs : List ℕ) → Bytes36 xs → bytes-test xs ≡ true
+pub test-from-bytes : (xs : List ℕ) → Bytes36 xs → bytes-test xs ≡ true
 test-from-bytes xs b =
     and-from (eqb (length xs) 36) (all-pass (λ b. ltb b 256) xs) (eq-eqb (length xs) 36 (b .long))
     (pass-from-all (λ b. ltb b 256) (λ b. b < 256) (λ b l. lt-ltb b 256 l) xs (all-from-getD (λ b. b < 256) xs 0 (λ i _. b .bytes i)))
@@ -84,6 +84,12 @@ test-from-sound r s =
     (and-from (bytes-test (r .value)) (inside (r .value) (r .mask) && (ltb (r .id) (2 ^ 32) && ltb (r .count) (2 ^ 64))) (test-from-bytes (r .value) (s .value-bytes))
     (and-from (inside (r .value) (r .mask)) (ltb (r .id) (2 ^ 32) && ltb (r .count) (2 ^ 64)) (inside-decides (r .value) (r .mask) .1 (s .masked-key))
     (and-from (ltb (r .id) (2 ^ 32)) (ltb (r .count) (2 ^ 64)) (lt-ltb (r .id) (2 ^ 32) (s .id-fits)) (lt-ltb (r .count) (2 ^ 64) (s .count-fits)))))
+
+-- a new rule of a masked key
+pub new-sound : (id priority : ℕ) (mask value : List ℕ) (ports next : ℕ) → id < 2 ^ 32 → Bytes36 mask → Bytes36 value → Within value mask → sound-test (new-rule id priority mask value ports next) ≡ true
+new-sound id priority mask value ports next h m v w =
+    test-from-sound (new-rule id priority mask value ports next)
+    (record { mask-bytes = m; value-bytes = v; masked-key = w; id-fits = h; count-fits = omega arith })
 
 -- what the test of two rules says
 abbrev Fit : Rule → Rule → Type 0
@@ -200,3 +206,12 @@ stored-credited xs i n s =
       untied = untied-credited xs i n (s .untied);
       few = subst (λ m. m ≤ 64) (sym (length-credited xs i n)) (s .few);
     }
+
+-- no rule stands
+pub standing-none : (xs : List Rule) → xs ≡ [] → standing xs ≡ true
+unfolding standing pairs-test
+standing-none xs e = ap standing e
+
+pub by-id-none : (xs : List Rule) → xs ≡ [] → by-id xs ≡ []
+unfolding by-id
+by-id-none xs e = ap by-id e

@@ -7,6 +7,7 @@ pub mod rule;
 pub use classifier::Classifier;
 pub use fault::ClassifierFault;
 pub use linear::Linear;
+pub use linear::LinearClassifier;
 pub use rule::Find;
 pub use rule::Match;
 pub use rule::Rule;

@@ -9,6 +9,8 @@ use super::rule::Rule;
 mod methods;
 mod scan;
 
+pub use methods::LinearClassifier;
+
 
 #[derive(Drop)]
 pub struct Linear {

@@ -5,14 +5,14 @@ ghost use Prim.Native.Nat.{_≤_};
 ghost use lib.Dec.{eqb};
 ghost use lib.ListN.{length};
 ghost use Rattle.std.specs.Holes.{inserted};
-ghost use Rattle.std.specs.Options.{Cases as BySome, mapped};
+ghost use Rattle.std.specs.Options.{Cases as BySome};
 ghost use Rattle.std.specs.Results.{Cases};
 ghost use Rattle.std.specs.declared.option.Option.the-variants.{Some, None};
-ghost use Rattle.flow.specs.Masks.{union, empty-mask};
+ghost use Rattle.flow.specs.Masks.{Within};
 ghost use Rattle.classifier.specs.Faults.{refusal-of};
-ghost use Rattle.classifier.specs.Rules.{matches, clashing, named};
-ghost use Rattle.classifier.specs.Tables.{stands, clash};
-ghost use Rattle.classifier.specs.Stores.{before, ranked, first-match, looked-at, standing};
+ghost use Rattle.classifier.specs.Rules.{matches, clashing, new-rule, found, Find-mask};
+ghost use Rattle.classifier.specs.Tables.{stands, clash, add-refusal, added};
+ghost use Rattle.classifier.specs.Stores.{before, by-id, linear-mask, sound-test, standing};
 ghost use Rattle.classifier.specs.Places.{Absent, Placed, admission};
 use crate::fault::ClassifierFault;
 use crate::rule::Find;
@@ -39,6 +39,37 @@ fn goes_before(one: &Rule, other: &Rule) -> bool
     ensures { λ r. ⌜ r ≡ before (now (one .entry)) (now (other .entry)) ⌝ }
 {
     one.priority > other.priority || (one.priority == other.priority && one.id < other.id)
+}
+
+// A copy of a row.
+fn row(bytes: &[u8; 36]) -> [u8; 36]
+    ensures { λ r. ⌜ r ≡ now (bytes .entry) ⌝ }
+{
+    *bytes
+}
+
+// A rule with count 0.
+pub fn fresh_rule(
+    id: u32,
+    priority: u16,
+    mask: &[u8; 36],
+    value: &[u8; 36],
+    ports: u64,
+    next: u16,
+) -> Rule
+    requires { ⌜ Within (now value) (now mask) ⌝ }
+    ensures is { λ r. ⌜ r ≡ new-rule id priority (now (mask .entry)) (now (value .entry)) ports next ⌝ }
+    ensures sound { λ r. ⌜ sound-test r ≡ true ⌝ }
+{
+    Rule {
+        id,
+        priority,
+        mask: row(mask),
+        value: row(value),
+        ports,
+        next,
+        count: 0,
+    }
 }
 
 // The place of the rule of this id.
@@ -94,10 +125,14 @@ pub fn admit(rules: &[Rule], new: &Rule) -> Result<(), ClassifierFault>
     }
 }
 
-// Where the new rule goes in the order of looking.
+// Where a new rule that may stand goes in the order of looking.
 pub fn rank_place(rules: &[Rule], new: &Rule) -> usize
+    requires ok { ⌜ standing (now rules) ≡ true ⌝ }
+    requires sound { ⌜ sound-test (now new) ≡ true ⌝ }
+    requires admitted { ⌜ add-refusal (by-id (now rules)) (now new) ≡ None ⌝ }
     ensures within { λ r. ⌜ r ≤ length (now (rules .entry)) ⌝ }
-    ensures place { λ r. ⌜ inserted (now (rules .entry)) r (now (new .entry)) ≡ ranked (now (rules .entry)) (now (new .entry)) ⌝ }
+    ensures grown { λ r. ⌜ by-id (inserted (now (rules .entry)) r (now (new .entry))) ≡ added (by-id (now (rules .entry))) (now (new .entry)) ⌝ }
+    ensures stands { λ r. ⌜ standing (inserted (now (rules .entry)) r (now (new .entry))) ≡ true ⌝ }
 {
     for (i, rule) in rules.iter().enumerate() {
         if goes_before(new, rule) {
@@ -109,8 +144,10 @@ pub fn rank_place(rules: &[Rule], new: &Rule) -> usize
 
 // The first rule that matches the key, with the bits of the rules that were looked at.
 pub fn look(rules: &[Rule], key: &[u8; 36]) -> Find
-    ensures rule { λ r. ⌜ r .rule ≡ mapped named (first-match (now (rules .entry)) (now (key .entry))) ⌝ }
-    ensures mask { λ r. ⌜ r .mask ≡ union empty-mask (looked-at (now (rules .entry)) (now (key .entry))) ⌝ }
+    requires { ⌜ standing (now rules) ≡ true ⌝ }
+    ensures rule { λ r. ⌜ r .rule ≡ found (by-id (now (rules .entry))) (now (key .entry)) ⌝ }
+    ensures mask { λ r. ⌜ Find-mask (by-id (now (rules .entry))) (now (key .entry)) (r .mask) ⌝ }
+    ensures exact { λ r. ⌜ r .mask ≡ linear-mask (by-id (now (rules .entry))) (now (key .entry)) ⌝ }
 {
     let mut mask = flow::empty_mask();
     for rule in rules {
