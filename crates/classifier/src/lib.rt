@@ -1,11 +1,15 @@
 // Which of the rules of one table decides a key.
 pub mod classifier;
 pub mod fault;
+pub mod finding;
 pub mod linear;
 pub mod rule;
+#[cfg(test)]
+mod tests;
 
 pub use classifier::Classifier;
 pub use fault::ClassifierFault;
+pub use finding::classifier_laws;
 pub use linear::Linear;
 pub use linear::LinearClassifier;
 pub use rule::Find;

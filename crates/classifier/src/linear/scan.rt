@@ -8,9 +8,9 @@ ghost use Rattle.std.specs.Holes.{inserted};
 ghost use Rattle.std.specs.Options.{Cases as BySome};
 ghost use Rattle.std.specs.Results.{Cases};
 ghost use Rattle.std.specs.declared.option.Option.the-variants.{Some, None};
-ghost use Rattle.flow.specs.Masks.{Within};
+ghost use Rattle.flow.specs.Masks.{Within, union};
 ghost use Rattle.classifier.specs.Faults.{refusal-of};
-ghost use Rattle.classifier.specs.Rules.{matches, clashing, new-rule, found, Find-mask};
+ghost use Rattle.classifier.specs.Rules.{matches, clashing, named, new-rule, found, Find-mask};
 ghost use Rattle.classifier.specs.Tables.{stands, clash, add-refusal, added};
 ghost use Rattle.classifier.specs.Stores.{before, by-id, linear-mask, sound-test, standing};
 ghost use Rattle.classifier.specs.Places.{Absent, Placed, admission};
@@ -26,12 +26,38 @@ fn covers_key(rule: &Rule, key: &[u8; 36]) -> bool
     flow::covers(&rule.mask, &rule.value, key)
 }
 
+// Looks at the rule: adds its mask's bits, and says whether it matches the key.
+fn look_at(rule: &Rule, key: &[u8; 36], mask: &mut [u8; 36]) -> bool
+    ensures matched { λ r. ⌜ r ≡ matches (now (rule .entry)) (now (key .entry)) ⌝ }
+    ensures added { λ r. ⌜ now (mask .exit) ≡ union (now (mask .entry)) (now (rule .entry) .mask) ⌝ }
+{
+    flow::union_into(mask, &rule.mask);
+    covers_key(rule, key)
+}
+
+// What a find names of the rule.
+fn name(rule: &Rule) -> Match
+    ensures { λ r. ⌜ r ≡ named (now (rule .entry)) ⌝ }
+{
+    Match {
+        id: rule.id,
+        ports: rule.ports,
+        next: rule.next,
+    }
+}
+
+// Whether some key is matched by both rules.
+fn overlap(one: &Rule, other: &Rule) -> bool
+    ensures { λ r. ⌜ r ≡ clashing (now (one .entry)) (now (other .entry)) ⌝ }
+{
+    flow::overlaps(&one.mask, &one.value, &other.mask, &other.value)
+}
+
 // Whether the rule has the new one's priority and overlaps it.
 fn clashes(rule: &Rule, new: &Rule) -> bool
     ensures { λ r. ⌜ r ≡ (eqb (now (rule .entry) .priority) (now (new .entry) .priority) && clashing (now (rule .entry)) (now (new .entry))) ⌝ }
 {
-    rule.priority == new.priority
-        && flow::overlaps(&rule.mask, &rule.value, &new.mask, &new.value)
+    rule.priority == new.priority && overlap(rule, new)
 }
 
 // Whether the one rule is looked at before the other.
@@ -151,14 +177,11 @@ pub fn look(rules: &[Rule], key: &[u8; 36]) -> Find
 {
     let mut mask = flow::empty_mask();
     for rule in rules {
-        flow::union_into(&mut mask, &rule.mask);
-        if covers_key(rule, key) {
-            let found = Match {
-                id: rule.id,
-                ports: rule.ports,
-                next: rule.next,
+        if look_at(rule, key, &mut mask) {
+            return Find {
+                rule: Some(name(rule)),
+                mask,
             };
-            return Find { rule: Some(found), mask };
         }
     }
     Find { rule: None, mask }
