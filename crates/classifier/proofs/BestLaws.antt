@@ -64,11 +64,11 @@ higher-above : (r s : Rule) (o : Option Rule) → s .priority < r .priority → 
 higher-above r s None l = higher-of r s l ∙ sym (lower-of s r (omega arith))
 higher-above r s (Some t) l =
     ⊎-elim
-    (λ lt. -- t below r
+    (λ lt.  -- t below r
     cond-both (ltb (t .priority) (s .priority)) (Some s) (Some t) (λ o. higher r o ≡ higher s (higher r (Some t)))
     (λ _. higher-of r s l ∙ sym (ap (higher s) (higher-of r t lt) ∙ lower-of s r (omega arith)))
     (λ _. higher-of r t lt ∙ sym (ap (higher s) (higher-of r t lt) ∙ lower-of s r (omega arith))))
-    (λ ge. -- t not below r
+    (λ ge.  -- t not below r
     ap (higher r) (lower-of s t (omega arith)) ∙ lower-of r t ge ∙ sym (ap (higher s) (lower-of r t ge) ∙ lower-of s t (omega arith)))
     (either (t .priority) (r .priority))
   where
@@ -135,9 +135,10 @@ best-is-first (x ∷ xs) k h f =
   where
     strictly : matches x k ≡ true → (ys : List Rule) → All (Untied x) ys → All (λ s. s .priority ≤ x .priority) ys → All (λ s. matches s k ≡ true → s .priority < x .priority) ys
     strictly m [] u l = tt
-    strictly m (y ∷ ys) u l =
-        ((λ n. ⊎-elim (λ e. absurd (priorities-differ x y k (u .0) m n e)) (⊎-elim (λ b. absurd (below b (l .0))) (λ b. b)) (cases-order (x .priority) (y .priority))),
-        strictly m ys (u .1) (l .1))
+    strictly m (y ∷ ys) u l = (
+      (λ n. ⊎-elim (λ e. absurd (priorities-differ x y k (u .0) m n e)) (⊎-elim (λ b. absurd (below b (l .0))) (λ b. b)) (cases-order (x .priority) (y .priority))),
+      strictly m ys (u .1) (l .1),
+    )
       where
         below : x .priority < y .priority → y .priority ≤ x .priority → ⊥
         below a b = omega arith

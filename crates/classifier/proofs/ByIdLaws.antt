@@ -351,12 +351,14 @@ apart-from-clash (s ∷ rs) new h =
     ⊎-elim
     (λ t. absurd (never (sym (cond-true (eqb (s .priority) (new .priority) && clashing s new) (Some (s .id)) (clash rs new) t) ∙ h)))
     (λ f. (
-    (λ e. miss (eqb (s .priority) (new .priority)) (clashing s new) (eq-eqb (s .priority) (new .priority) e) f),
-    apart-from-clash rs new (sym (cond-false (eqb (s .priority) (new .priority) && clashing s new) (Some (s .id)) (clash rs new) f) ∙ h)))
+      (λ e. miss (eqb (s .priority) (new .priority)) (clashing s new) (eq-eqb (s .priority) (new .priority) e) f),
+      apart-from-clash rs new (sym (cond-false (eqb (s .priority) (new .priority) && clashing s new) (Some (s .id)) (clash rs new) f) ∙ h),
+    ))
     (cases-bool (eqb (s .priority) (new .priority) && clashing s new))
   where
     never : {i : ℕ} → Some i ≡ None → ⊥
     never e = let z : _≡_ {A = ℕ} 0 1 = cc in omega arith
+
     miss : (a b : Bool) → a ≡ true → (a && b) ≡ false → b ≡ false
     miss true b e f = f
     miss false b e f = absurd (both-ways false refl e)

@@ -138,16 +138,24 @@ said-more r rs k None m u s =
     (first-of r rs, m, ((λ _. inl refl), all-weaker (λ x. matches x k ≡ false) (λ x. matches x k ≡ true → (x ≡ r) ⊎ (x .priority < r .priority)) (λ x f t. absurd (both-ways (matches x k) f t)) rs s))
 said-more r rs k (Some b) m u s =
     cond-both (ltb (b .priority) (r .priority)) (Some r) (Some b) (Said (r ∷ rs) k)
-    (λ e. let l = ltb-true (b .priority) (r .priority) e in
-    (first-of r rs, m, ((λ _. inl refl),
-    all-weaker (λ x. matches x k ≡ true → (x ≡ b) ⊎ (x .priority < b .priority)) (λ x. matches x k ≡ true → (x ≡ r) ⊎ (x .priority < r .priority))
-    (λ x f t. inr (⊎-elim (λ q. subst (λ y. y .priority < r .priority) (sym q) l) (λ q. below x l q) (f t))) rs (s .2))))
-    (λ e. let l = ltb-false (b .priority) (r .priority) e in
-    (has-append-right (r ∷ []) rs b (s .0), s .1,
-    ((λ _. inr (⊎-elim (λ q. absurd (priorities-differ r b k (all-has (Untied r) rs b u (s .0)) m (s .1) q)) (⊎-elim (λ q. q) (λ q. absurd (never l q))) (cases-order (r .priority) (b .priority)))), s .2)))
+    (λ e. let l = ltb-true (b .priority) (r .priority) e in (
+      first-of r rs,
+      m,
+      (
+        (λ _. inl refl),
+        all-weaker (λ x. matches x k ≡ true → (x ≡ b) ⊎ (x .priority < b .priority)) (λ x. matches x k ≡ true → (x ≡ r) ⊎ (x .priority < r .priority))
+            (λ x f t. inr (⊎-elim (λ q. subst (λ y. y .priority < r .priority) (sym q) l) (λ q. below x l q) (f t))) rs (s .2),
+      ),
+    ))
+    (λ e. let l = ltb-false (b .priority) (r .priority) e in (
+      has-append-right (r ∷ []) rs b (s .0),
+      s .1,
+      ((λ _. inr (⊎-elim (λ q. absurd (priorities-differ r b k (all-has (Untied r) rs b u (s .0)) m (s .1) q)) (⊎-elim (λ q. q) (λ q. absurd (never l q))) (cases-order (r .priority) (b .priority)))), s .2),
+    ))
   where
     below : (x : Rule) → b .priority < r .priority → x .priority < b .priority → x .priority < r .priority
     below x p q = omega arith
+
     never : r .priority ≤ b .priority → b .priority < r .priority → ⊥
     never p q = omega arith
 

@@ -44,10 +44,12 @@ by-id-out xs p d h o =
     whole [] q l = absurd (omega arith)
     whole (y ∷ ys) zero l = refl
     whole (y ∷ ys) (suc q) l = ap (λ zs. y ∷ zs) (whole ys q (omega arith))
+
     front : (ys : List Rule) (q : ℕ) → q < length ys → Pairs Other ys → All (Other (getD ys q d)) (take q ys)
     front [] q l w = absurd (omega arith)
     front (y ∷ ys) zero l w = tt
     front (y ∷ ys) (suc q) l w = ((λ e. all-getD (Other y) ys q d (omega arith) (w .0) (sym e)), front ys q (omega arith) (w .1))
+
     back : (ys : List Rule) (q : ℕ) → q < length ys → Pairs Other ys → All (Other (getD ys q d)) (drop (suc q) ys)
     back [] q l w = absurd (omega arith)
     back (y ∷ ys) zero l w = w .0

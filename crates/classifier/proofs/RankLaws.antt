@@ -116,9 +116,11 @@ by-id-ranked (x ∷ xs) r h =
 -- in the order of looking the priorities fall
 pub falling : (xs : List Rule) → Pairs (λ r s. before r s ≡ true) xs → Pairs (λ r s. s .priority ≤ r .priority) xs
 falling [] o = tt
-falling (x ∷ xs) o =
-    (all-weaker (λ s. before x s ≡ true) (λ s. s .priority ≤ x .priority)
-    (λ s e. ⊎-elim (λ l. omega arith) (λ l. omega arith) (before-means x s e)) xs (o .0), falling xs (o .1))
+falling (x ∷ xs) o = (
+  all-weaker (λ s. before x s ≡ true) (λ s. s .priority ≤ x .priority)
+      (λ s e. ⊎-elim (λ l. omega arith) (λ l. omega arith) (before-means x s e)) xs (o .0),
+  falling xs (o .1),
+)
 
 -- insertion keeps the order
 pub length-ranked : (rs : List Rule) (r : Rule) → length (ranked rs r) ≡ suc (length rs)

@@ -102,9 +102,11 @@ fit-from-test : (r s : Rule) → pair-test r s ≡ true → Fit r s
 unfolding pair-test
 fit-from-test r s h =
     let a = and-parts (before r s) (not (eqb (r .id) (s .id)) && not (eqb (r .priority) (s .priority) && clashing r s)) h in
-    let b = and-parts (not (eqb (r .id) (s .id))) (not (eqb (r .priority) (s .priority) && clashing r s)) (a .1) in
-    (a .0, eqb-false (r .id) (s .id) (not-true (eqb (r .id) (s .id)) (b .0)),
-    λ e. miss (eqb (r .priority) (s .priority)) (clashing r s) (eq-eqb (r .priority) (s .priority) e) (not-true (eqb (r .priority) (s .priority) && clashing r s) (b .1)))
+    let b = and-parts (not (eqb (r .id) (s .id))) (not (eqb (r .priority) (s .priority) && clashing r s)) (a .1) in (
+      a .0,
+      eqb-false (r .id) (s .id) (not-true (eqb (r .id) (s .id)) (b .0)),
+      λ e. miss (eqb (r .priority) (s .priority)) (clashing r s) (eq-eqb (r .priority) (s .priority) e) (not-true (eqb (r .priority) (s .priority) && clashing r s) (b .1)),
+    )
 
 test-from-fit : (r s : Rule) → Fit r s → pair-test r s ≡ true
 unfolding pair-test

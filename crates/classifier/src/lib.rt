@@ -4,6 +4,7 @@ pub mod fault;
 pub mod finding;
 pub mod linear;
 pub mod rule;
+mod rules;
 #[cfg(test)]
 mod tests;
 

@@ -11,7 +11,6 @@ mod scan;
 
 pub use methods::LinearClassifier;
 
-
 #[derive(Drop)]
 pub struct Linear {
     // in the order of looking

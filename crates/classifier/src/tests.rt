@@ -45,8 +45,14 @@ fn refuses_and_counts(rt: LibcRuntime) -> Result<(), Fail> {
     let one = MaskedKey::from_row(&row(0, 0x0f), &row(0, 1))?;
     let other = MaskedKey::from_row(&row(0, 0xf0), &row(0, 0x20))?;
     table.add(7, 3, &one, 0, 0)?;
-    check_eq(table.add(7, 4, &other, 0, 0), Err(ClassifierFault::Stands(7)))?;
-    check_eq(table.add(8, 3, &other, 0, 0), Err(ClassifierFault::Overlaps(7)))?;
+    check_eq(
+        table.add(7, 4, &other, 0, 0),
+        Err(ClassifierFault::Stands(7)),
+    )?;
+    check_eq(
+        table.add(8, 3, &other, 0, 0),
+        Err(ClassifierFault::Overlaps(7)),
+    )?;
     table.credit(7, u64::MAX);
     table.credit(7, 3);
     check_eq(table.count(7), Ok(2))?;

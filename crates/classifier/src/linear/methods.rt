@@ -8,6 +8,7 @@ use super::scan;
 use crate::classifier::Classifier;
 use crate::fault::ClassifierFault;
 use crate::rule::Find;
+use crate::rules;
 use flow::MaskedKey;
 use std::alloc::AllocError;
 use std::alloc::Global;
@@ -30,7 +31,7 @@ pub impl Classifier for Linear as LinearClassifier {
         ports: u64,
         next: u16,
     ) -> Result<(), ClassifierFault> {
-        let new = scan::fresh_rule(id, priority, key.mask(), key.value(), ports, next);
+        let new = rules::fresh_rule(id, priority, key.mask(), key.value(), ports, next);
         scan::admit(&self.rules, &new)?;
         let place = scan::rank_place(&self.rules, &new);
         // there is room for 64 rules

@@ -1,101 +1,27 @@
 // Searches through the rules of one table, in the order of looking.
 ghost use mathlib.Core.Path.{_≡_};
-ghost use mathlib.Core.Bool.{true, false, _&&_};
+ghost use mathlib.Core.Bool.{true};
 ghost use Prim.Native.Nat.{_≤_};
-ghost use lib.Dec.{eqb};
 ghost use lib.ListN.{length};
 ghost use Rattle.std.specs.Holes.{inserted};
 ghost use Rattle.std.specs.Options.{Cases as BySome};
 ghost use Rattle.std.specs.Results.{Cases};
 ghost use Rattle.std.specs.declared.option.Option.the-variants.{Some, None};
-ghost use Rattle.flow.specs.Masks.{Within, union};
 ghost use Rattle.classifier.specs.Faults.{refusal-of};
-ghost use Rattle.classifier.specs.Rules.{matches, clashing, named, new-rule, found, Find-mask};
+ghost use Rattle.classifier.specs.Rules.{found, Find-mask};
 ghost use Rattle.classifier.specs.Tables.{stands, clash, add-refusal, added};
 ghost use Rattle.classifier.specs.Stores.{before, by-id, linear-mask, sound-test, standing};
 ghost use Rattle.classifier.specs.Places.{Absent, Placed, admission};
 use crate::fault::ClassifierFault;
 use crate::rule::Find;
-use crate::rule::Match;
 use crate::rule::Rule;
-
-// Whether the rule matches the key.
-fn covers_key(rule: &Rule, key: &[u8; 36]) -> bool
-    ensures { λ r. ⌜ r ≡ matches (now (rule .entry)) (now (key .entry)) ⌝ }
-{
-    flow::covers(&rule.mask, &rule.value, key)
-}
-
-// Looks at the rule: adds its mask's bits, and says whether it matches the key.
-fn look_at(rule: &Rule, key: &[u8; 36], mask: &mut [u8; 36]) -> bool
-    ensures matched { λ r. ⌜ r ≡ matches (now (rule .entry)) (now (key .entry)) ⌝ }
-    ensures added { λ r. ⌜ now (mask .exit) ≡ union (now (mask .entry)) (now (rule .entry) .mask) ⌝ }
-{
-    flow::union_into(mask, &rule.mask);
-    covers_key(rule, key)
-}
-
-// What a find names of the rule.
-fn name(rule: &Rule) -> Match
-    ensures { λ r. ⌜ r ≡ named (now (rule .entry)) ⌝ }
-{
-    Match {
-        id: rule.id,
-        ports: rule.ports,
-        next: rule.next,
-    }
-}
-
-// Whether some key is matched by both rules.
-fn overlap(one: &Rule, other: &Rule) -> bool
-    ensures { λ r. ⌜ r ≡ clashing (now (one .entry)) (now (other .entry)) ⌝ }
-{
-    flow::overlaps(&one.mask, &one.value, &other.mask, &other.value)
-}
-
-// Whether the rule has the new one's priority and overlaps it.
-fn clashes(rule: &Rule, new: &Rule) -> bool
-    ensures { λ r. ⌜ r ≡ (eqb (now (rule .entry) .priority) (now (new .entry) .priority) && clashing (now (rule .entry)) (now (new .entry))) ⌝ }
-{
-    rule.priority == new.priority && overlap(rule, new)
-}
+use crate::rules;
 
 // Whether the one rule is looked at before the other.
 fn goes_before(one: &Rule, other: &Rule) -> bool
     ensures { λ r. ⌜ r ≡ before (now (one .entry)) (now (other .entry)) ⌝ }
 {
     one.priority > other.priority || (one.priority == other.priority && one.id < other.id)
-}
-
-// A copy of a row.
-fn row(bytes: &[u8; 36]) -> [u8; 36]
-    ensures { λ r. ⌜ r ≡ now (bytes .entry) ⌝ }
-{
-    *bytes
-}
-
-// A rule with count 0.
-pub fn fresh_rule(
-    id: u32,
-    priority: u16,
-    mask: &[u8; 36],
-    value: &[u8; 36],
-    ports: u64,
-    next: u16,
-) -> Rule
-    requires { ⌜ Within (now value) (now mask) ⌝ }
-    ensures is { λ r. ⌜ r ≡ new-rule id priority (now (mask .entry)) (now (value .entry)) ports next ⌝ }
-    ensures sound { λ r. ⌜ sound-test r ≡ true ⌝ }
-{
-    Rule {
-        id,
-        priority,
-        mask: row(mask),
-        value: row(value),
-        ports,
-        next,
-        count: 0,
-    }
 }
 
 // The place of the rule of this id.
@@ -128,7 +54,7 @@ fn first_clash(rules: &[Rule], new: &Rule) -> Option<u32>
     ensures { λ r. ⌜ r ≡ clash (now (rules .entry)) (now (new .entry)) ⌝ }
 {
     for rule in rules {
-        if clashes(rule, new) {
+        if rules::clashes(rule, new) {
             return Some(rule.id);
         }
     }
@@ -177,9 +103,9 @@ pub fn look(rules: &[Rule], key: &[u8; 36]) -> Find
 {
     let mut mask = flow::empty_mask();
     for rule in rules {
-        if look_at(rule, key, &mut mask) {
+        if rules::look_at(rule, key, &mut mask) {
             return Find {
-                rule: Some(name(rule)),
+                rule: Some(rules::name(rule)),
                 mask,
             };
         }

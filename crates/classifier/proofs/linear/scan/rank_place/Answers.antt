@@ -15,11 +15,11 @@ loop-i-again c =
 pub returns-then-goes-before : need.returns-then-goes-before
 returns-then-goes-before c =
     let g = grown-from (c .args .rules .now) _ (c .args .new .now) (c .pre .ok) (c .pre .sound) (c .pre .admitted)
-        (inserted-ranked (c .args .rules .now) (c .loop-i .i) (c .args .new .now) _ (c .loop-i-test .taken) (c .loop-i .inv) (sym (c .if-goes-before .ensures tt))) in
+    (inserted-ranked (c .args .rules .now) (c .loop-i .i) (c .args .new .now) _ (c .loop-i-test .taken) (c .loop-i .inv) (sym (c .if-goes-before .ensures tt))) in
     record { within = omega arith; grown = g .rules; stands = g .stands-still }
 
 pub returns : need.returns
 returns c =
     let g = grown-from (c .args .rules .now) _ (c .args .new .now) (c .pre .ok) (c .pre .sound) (c .pre .admitted)
-        (inserted-ranked-last (c .args .rules .now) (c .loop-i .i) (c .args .new .now) (omega arith) (c .loop-i .inv)) in
+    (inserted-ranked-last (c .args .rules .now) (c .loop-i .i) (c .args .new .now) (omega arith) (c .loop-i .inv)) in
     record { within = omega arith; grown = g .rules; stands = g .stands-still }

@@ -29,6 +29,7 @@ rank-place-place-requires c κs =
 
 pub returns : need.returns
 returns c =
-    let e = c .fresh-rule-new .ensures .is ∙ ap₂ (λ m v. new-rule (c .args .id) (c .args .priority) m v (c .args .ports) (c .args .next)) (c .mask .ensures) (c .value .ensures) in
-    (refusal-from (vec-items (c .args .self .now .rules)) (c .deref .result .now) (c .fresh-rule-new .result) _ None (c .args .self .now .ok) (c .deref .ensures .value) e (c .in-Continue-admit .ensures tt),
-    search needs)
+    let e = c .fresh-rule-new .ensures .is ∙ ap₂ (λ m v. new-rule (c .args .id) (c .args .priority) m v (c .args .ports) (c .args .next)) (c .mask .ensures) (c .value .ensures) in (
+      refusal-from (vec-items (c .args .self .now .rules)) (c .deref .result .now) (c .fresh-rule-new .result) _ None (c .args .self .now .ok) (c .deref .ensures .value) e (c .in-Continue-admit .ensures tt),
+      search needs,
+    )

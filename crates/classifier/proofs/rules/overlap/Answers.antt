@@ -1,5 +1,5 @@
 use Rattle.classifier.specs.Rules.{clashing}
-use Rattle.classifier.proofs.linear.scan.overlap.Needs as need
+use Rattle.classifier.proofs.rules.overlap.Needs as need
 
 pub returns : need.returns
 unfolding clashing

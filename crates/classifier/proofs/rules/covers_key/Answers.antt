@@ -1,5 +1,5 @@
 use Rattle.classifier.specs.Rules.{matches}
-use Rattle.classifier.proofs.linear.scan.covers_key.Needs as need
+use Rattle.classifier.proofs.rules.covers_key.Needs as need
 
 pub returns : need.returns
 unfolding matches

@@ -4,7 +4,7 @@ use native.Mathlib.Omega.{arith}
 use Rattle.classifier.specs.Rules.{new-rule}
 use Rattle.classifier.specs.Stores.{sound-test}
 use Rattle.classifier.proofs.StandingLaws.{new-sound}
-use Rattle.classifier.proofs.linear.scan.fresh_rule.Needs as need
+use Rattle.classifier.proofs.rules.fresh_rule.Needs as need
 
 pub returns : need.returns
 returns c =
