@@ -85,14 +85,20 @@ in-turn r s o true false h = refl
 in-turn r s o false true h = refl
 in-turn r s o false false h = refl
 
--- one rule more
-pub best-added : (rs : List Rule) (r : Rule) (k : List ℕ) → All (Untied r) rs → best (added rs r) k ≡ cond (matches r k) (higher r (best rs k)) (best rs k)
+-- one rule more, where no other that matches the key has its priority
+pub best-added-at : (rs : List Rule) (r : Rule) (k : List ℕ) → All (λ s. matches r k ≡ true → matches s k ≡ true → r .priority ≡ s .priority → ⊥) rs → best (added rs r) k ≡ cond (matches r k) (higher r (best rs k)) (best rs k)
 unfolding best added
-best-added [] r k h = refl
-best-added (s ∷ rs) r k h =
+best-added-at [] r k h = refl
+best-added-at (s ∷ rs) r k h =
     added-cases (λ ys. best ys k ≡ cond (matches r k) (higher r (best (s ∷ rs) k)) (best (s ∷ rs) k)) s rs r (λ _. refl)
-    (λ _. ap (λ o. cond (matches s k) (higher s o) o) (best-added rs r k (h .1))
-    ∙ in-turn r s (best rs k) (matches s k) (matches r k) (λ p q. higher-comm s r (best rs k) (λ e. priorities-differ r s k (h .0) q p (sym e))))
+    (λ _. ap (λ o. cond (matches s k) (higher s o) o) (best-added-at rs r k (h .1))
+    ∙ in-turn r s (best rs k) (matches s k) (matches r k) (λ p q. higher-comm s r (best rs k) (λ e. h .0 q p (sym e))))
+
+-- one rule more, that ties with none
+pub best-added : (rs : List Rule) (r : Rule) (k : List ℕ) → All (Untied r) rs → best (added rs r) k ≡ cond (matches r k) (higher r (best rs k)) (best rs k)
+best-added rs r k h =
+    best-added-at rs r k
+    (all-weaker (Untied r) (λ s. matches r k ≡ true → matches s k ≡ true → r .priority ≡ s .priority → ⊥) (λ s u p q. priorities-differ r s k u p q) rs h)
 
 pub best-by-id : (xs : List Rule) (k : List ℕ) → Pairs Untied xs → best (by-id xs) k ≡ best xs k
 unfolding by-id best
