@@ -10,12 +10,14 @@ abbrev pub tally : Bool → ℕ → ℕ
 tally b n = cond b (plus n 1) n
 
 -- the totals after a frame that was decided at this depth
-unfoldable pub after-frame : Totals → ℕ → Totals
+abbrev pub after-frame : Totals → ℕ → Totals
 after-frame t d =
-    record { frames = plus (t .frames) 1
-    ; depth1 = tally (eqb d 1) (t .depth1)
-    ; depth2 = tally (eqb d 2) (t .depth2)
-    ; deeper = tally (ltb 2 d) (t .deeper) }
+    record {
+      frames = plus (t .frames) 1;
+      depth1 = tally (eqb d 1) (t .depth1);
+      depth2 = tally (eqb d 2) (t .depth2);
+      deeper = tally (ltb 2 d) (t .deeper);
+    }
 
 -- the totals of a new switch
 abbrev pub none-yet : Totals

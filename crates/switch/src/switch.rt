@@ -64,4 +64,53 @@ impl<L: Level> Switch<L> {
             depth,
         })
     }
+
+    // Where a frame would go. Changes nothing.
+    pub fn peek(&self, in_port: u16, frame: &[u8]) -> Result<Peek, SwitchFault>
+        requires { ⌜ L·Level .sound (now self .level) ⌝ }
+        ensures { λ r. ⌜ Cases r (λ p. (refusal «in_port» (now (frame .entry)) ≡ None) × (p .ports ≡ ports-of (walk (L·Level .rules (now (self .entry) .level)) (key-of «in_port» (now (frame .entry))))) × Tells (L·Level .rules (now (self .entry) .level)) (key-of «in_port» (now (frame .entry))) (p .mask)) (λ e. refusal «in_port» (now (frame .entry)) ≡ Some (refusal-of e)) ⌝ }
+    {
+        let key = read_key(in_port, frame)?;
+        Ok(self.level.peek(&key))
+    }
+
+    // One rule more.
+    pub fn add(&mut self, rule: &RuleRecord) -> Result<(), SwitchFault>
+        requires { ⌜ L·Level .sound (now self .level) ⌝ }
+        ensures kept { λ _. ⌜ L·Level .sound (now (self .exit) .level) ⌝ }
+        ensures value { λ r. ⌜ Cases r (λ _. (add-fault (L·Level .rules (now (self .entry) .level)) (now (rule .entry)) ≡ None) × (L·Level .rules (now (self .exit) .level) ≡ with-rule (L·Level .rules (now (self .entry) .level)) (now (rule .entry)))) (λ e. (add-fault (L·Level .rules (now (self .entry) .level)) (now (rule .entry)) ≡ Some (refusal-of e)) × (L·Level .rules (now (self .exit) .level) ≡ L·Level .rules (now (self .entry) .level))) ⌝ }
+        ensures totals { λ _. ⌜ now (self .exit) .totals ≡ now (self .entry) .totals ⌝ }
+    {
+        self.level.add(rule)?;
+        Ok(())
+    }
+
+    // The rule of this id leaves its table.
+    pub fn remove(&mut self, table: u32, id: u32) -> Result<(), SwitchFault>
+        requires { ⌜ L·Level .sound (now self .level) ⌝ }
+        ensures kept { λ _. ⌜ L·Level .sound (now (self .exit) .level) ⌝ }
+        ensures value { λ r. ⌜ Cases r (λ _. (missing-fault (L·Level .rules (now (self .entry) .level)) table id ≡ None) × (L·Level .rules (now (self .exit) .level) ≡ without-rule (L·Level .rules (now (self .entry) .level)) table id)) (λ e. (missing-fault (L·Level .rules (now (self .entry) .level)) table id ≡ Some (refusal-of e)) × (L·Level .rules (now (self .exit) .level) ≡ L·Level .rules (now (self .entry) .level))) ⌝ }
+        ensures totals { λ _. ⌜ now (self .exit) .totals ≡ now (self .entry) .totals ⌝ }
+    {
+        self.level.remove(table, id)?;
+        Ok(())
+    }
+
+    // The due count of the rule of this id.
+    pub fn count(&mut self, table: u32, id: u32) -> Result<u64, SwitchFault>
+        requires { ⌜ L·Level .sound (now self .level) ⌝ }
+        ensures kept { λ _. ⌜ L·Level .sound (now (self .exit) .level) ⌝ }
+        ensures same { λ _. ⌜ L·Level .rules (now (self .exit) .level) ≡ L·Level .rules (now (self .entry) .level) ⌝ }
+        ensures value { λ r. ⌜ Cases r (λ n. (missing-fault (L·Level .rules (now (self .entry) .level)) table id ≡ None) × (n ≡ rule-count (L·Level .rules (now (self .entry) .level)) table id)) (λ e. missing-fault (L·Level .rules (now (self .entry) .level)) table id ≡ Some (refusal-of e)) ⌝ }
+        ensures totals { λ _. ⌜ now (self .exit) .totals ≡ now (self .entry) .totals ⌝ }
+    {
+        Ok(self.level.count(table, id)?)
+    }
+
+    // The four totals.
+    pub fn totals(&self) -> Totals
+        ensures { λ r. ⌜ r ≡ now (self .entry) .totals ⌝ }
+    {
+        self.totals
+    }
 }

@@ -27,5 +27,7 @@ returns g c =
     let xs = vec-items (c .loop .classifiers) in
     let end : c .loop .counter ≡ 4 = omega (arith, c .loop-test .left, c .loop .kept .counter-end) in
     let none : map f xs ≡ no-rules = c .loop .inv ∙ ap (λ n. replicate n []) end in
-    record { empty = none
-    ; sound = (sym (length-map xs f) ∙ ap length none, subst (Forward 0) (sym none) empty-forward) }
+    record {
+      empty = none;
+      sound = (sym (length-map xs f) ∙ ap length none, subst (Forward 0) (sym none) empty-forward);
+    }
