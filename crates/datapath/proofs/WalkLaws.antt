@@ -1,9 +1,14 @@
 -- The laws of the walk and of the counts that it moves: what caches use, so that none of them looks into the walk.
 use mathlib.Core.Path.{_≡_, refl, sym, _∙_, ap, ap₂, fun-ext}
+use mathlib.Core.Bool.{Bool, true, false, cond}
 use mathlib.Core.List.{List, [], _∷_, _++_}
 use Prim.Native.Nat.{ℕ, zero, suc, _+_, _^_, _<_}
 use native.Mathlib.Omega.{arith}
+use lib.Dec.{eqb}
 use lib.ListN.{length, getD, set}
+use Rattle.std.specs.declared.option.Option.{Option}
+use Rattle.std.specs.declared.option.Option.the-variants.{Some, None}
+use Rattle.classifier.specs.declared.rule.Match.{Match}
 use Rattle.std.specs.shelf.Lists.{All}
 use Rattle.std.proofs.shelf.Elements.{all-weaker}
 use Rattle.flow.specs.Masks.{Bytes36, Agree, Covers, Within}
@@ -13,6 +18,7 @@ use Rattle.classifier.specs.Rules.{Lawful, Sound-rule, found}
 use Rattle.classifier.specs.Tables.{plus, credited}
 use Rattle.datapath.specs.declared.level.Mark.{Mark}
 use Rattle.datapath.specs.Walk.{Tables-of, table-of, crossing, walk-from, walk, ports-of, Alike, Tells, credit-at, credit-along, due, Lawful-tables}
+use Rattle.datapath.specs.Laws.{Decided-there, Walk-laws}
 use Rattle.datapath.specs.Entries.{Entry, True-entry, All-true}
 use Rattle.datapath.proofs.Counts.{credited-swap, credited-join, credited-none, found-credited}
 
@@ -166,3 +172,29 @@ true-due ts k n e h q b c = (alike-due ts k n (e .value) q (h q b c .0), ap port
 pub all-true-due : (ts : Tables-of) (k : List ℕ) (n : ℕ) (es : List Entry) → All-true ts es → All-true (due ts k n) es
 unfolding All-true
 all-true-due ts k n es h = all-weaker (True-entry ts) (True-entry (due ts k n)) (λ e. true-due ts k n e) es h
+
+-- What is crossed -----------------------------------------------------------------------------------------------
+
+crossed-there : (f : ℕ) (ts : Tables-of) (t : ℕ) (k : List ℕ) → All (Decided-there ts k) (walk-from f ts t k)
+unfolding walk-from
+crossed-there zero ts t k = tt
+crossed-there (suc f) ts t k = go (found (table-of ts t) k) refl
+  where
+    rest : (b : Bool) (u : ℕ) → All (Decided-there ts k) (cond b [] (walk-from f ts u k))
+    rest true u = tt
+    rest false u = crossed-there f ts u k
+
+    go : (o : Option Match) → found (table-of ts t) k ≡ o → All (Decided-there ts k) (crossing t o (λ u. walk-from f ts u k))
+    go None e = tt
+    go (Some m) e = (e, rest (eqb (m .next) 0) (m .next))
+
+pub walk-laws : Walk-laws
+unfolding walk
+walk-laws =
+    record {
+      decided = λ ts k. crossed-there 4 ts 0 k;
+      counts-aside = λ ts k q n. walk-due ts k n q;
+      same-counts = due-alike;
+      any-order = due-swap;
+      joined = due-join;
+    }

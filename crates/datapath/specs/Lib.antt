@@ -2,3 +2,4 @@ pub mod Walk
 pub mod Calls
 pub mod Faults
 pub mod Entries
+pub mod Laws

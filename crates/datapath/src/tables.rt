@@ -83,9 +83,7 @@ pub impl<C: Classifier> Level for Tables<C> as TablesLevel {
     }
 
     fn decide(&mut self, key: &[u8; 36]) -> Decision {
-        let walk = self.walk(key);
-        self.credit_along(&walk, 1);
-        let Walk { ports, mask, .. } = walk;
+        let Walk { ports, mask, .. } = self.pass(key, 1);
         Decision {
             ports,
             mask,
@@ -94,8 +92,7 @@ pub impl<C: Classifier> Level for Tables<C> as TablesLevel {
     }
 
     fn credit(&mut self, key: &[u8; 36], n: u64) {
-        let walk = self.walk(key);
-        self.credit_along(&walk, n);
+        let _ = self.pass(key, n);
     }
 
     fn add(&mut self, rule: &RuleRecord) -> Result<(), TablesFault> {

@@ -5,7 +5,7 @@ ghost use Prim.Native.Nat.{_<_, _≤_};
 ghost use lib.ListN.{length, take};
 ghost use Rattle.std.specs.Of.Vec.{vec-items};
 ghost use Rattle.std.specs.shelf.Lists.{All};
-ghost use Rattle.datapath.specs.Walk.{Forward, walk, ports-of, Tells, credit-along};
+ghost use Rattle.datapath.specs.Walk.{Forward, walk, ports-of, Tells, credit-along, due};
 use super::level::Mark;
 use super::tables::Tables;
 use classifier::Classifier;
@@ -87,6 +87,23 @@ impl<C: Classifier> Tables<C> {
             let mark = walk.crossed[i];
             self.classifiers[usize::from(mark.table)].credit(mark.id, n);
         }
+    }
+}
+
+impl<C: Classifier> Tables<C> {
+    // The walk of a key, with n more for each rule crossed.
+    pub fn pass(&mut self, key: &[u8; 36], n: u64) -> Walk
+        requires four { ⌜ length (vec-items (now self .classifiers)) ≡ 4 ⌝ }
+        requires forward { ⌜ Forward 0 (map (C·Classifier .rules) (vec-items (now self .classifiers))) ⌝ }
+        ensures four { λ _. ⌜ length (vec-items (now (self .exit) .classifiers)) ≡ 4 ⌝ }
+        ensures forward { λ _. ⌜ Forward 0 (map (C·Classifier .rules) (vec-items (now (self .exit) .classifiers))) ⌝ }
+        ensures ports { λ r. ⌜ r .ports ≡ ports-of (walk (map (C·Classifier .rules) (vec-items (now (self .entry) .classifiers))) (now (key .entry))) ⌝ }
+        ensures mask { λ r. ⌜ Tells (map (C·Classifier .rules) (vec-items (now (self .entry) .classifiers))) (now (key .entry)) (r .mask) ⌝ }
+        ensures counted { λ _. ⌜ map (C·Classifier .rules) (vec-items (now (self .exit) .classifiers)) ≡ due (map (C·Classifier .rules) (vec-items (now (self .entry) .classifiers))) (now (key .entry)) n ⌝ }
+    {
+        let walk = self.walk(key);
+        self.credit_along(&walk, n);
+        walk
     }
 }
 
