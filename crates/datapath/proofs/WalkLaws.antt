@@ -175,18 +175,15 @@ all-true-due ts k n es h = all-weaker (True-entry ts) (True-entry (due ts k n)) 
 
 -- What is crossed -----------------------------------------------------------------------------------------------
 
+crossed-next : (ts : Tables-of) (k : List ℕ) (w : ℕ → List Mark) (t : ℕ) (o : Option Match) → found (table-of ts t) k ≡ o → ((u : ℕ) → All (Decided-there ts k) (w u)) → All (Decided-there ts k) (crossing t o w)
+crossed-next ts k w t None e h = tt
+crossed-next ts k w t (Some m) e h =
+    (e, elim (eqb (m .next) 0) as (λ b. All (Decided-there ts k) (cond b [] (w (m .next)))) [ true ↦ tt | false ↦ h (m .next) ])
+
 crossed-there : (f : ℕ) (ts : Tables-of) (t : ℕ) (k : List ℕ) → All (Decided-there ts k) (walk-from f ts t k)
 unfolding walk-from
 crossed-there zero ts t k = tt
-crossed-there (suc f) ts t k = go (found (table-of ts t) k) refl
-  where
-    rest : (b : Bool) (u : ℕ) → All (Decided-there ts k) (cond b [] (walk-from f ts u k))
-    rest true u = tt
-    rest false u = crossed-there f ts u k
-
-    go : (o : Option Match) → found (table-of ts t) k ≡ o → All (Decided-there ts k) (crossing t o (λ u. walk-from f ts u k))
-    go None e = tt
-    go (Some m) e = (e, rest (eqb (m .next) 0) (m .next))
+crossed-there (suc f) ts t k = crossed-next ts k (λ u. walk-from f ts u k) t (found (table-of ts t) k) refl (λ u. crossed-there f ts u k)
 
 pub walk-laws : Walk-laws
 unfolding walk
