@@ -1,7 +1,10 @@
 // The program: reads scripts from the files that are named as arguments, or from standard input, and runs them.
-use script::run::RunFault;
-use script::run::RunFaultDisplay;
-use script::run::run;
+mod run;
+mod switches;
+
+use run::RunFault;
+use run::RunFaultDisplay;
+use run::run;
 use script::statement::Numbered;
 use script::statement::ScriptFault;
 use script::statement::ScriptFaultDisplay;

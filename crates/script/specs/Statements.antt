@@ -3,14 +3,11 @@ use mathlib.Core.Path.{_≡_}
 use mathlib.Core.List.{List}
 use Prim.Native.Nat.{ℕ}
 use Rattle.std.specs.Of.String.{string-bytes}
-use Rattle.std.specs.Of.Vec.{vec-items}
 use Rattle.std.specs.declared.option.Option.the-variants.{Some, None}
 use Rattle.std.specs.declared.result.Result.{Result}
 use Rattle.std.specs.declared.result.Result.the-variants.{Ok, Err}
-use Rattle.script.specs.declared.statement.Statement.{Statement}
-use Rattle.script.specs.declared.statement.Statement.the-variants.{Key, Keys}
 use Rattle.script.specs.declared.statement.LineFault.{LineFault}
-use Rattle.script.specs.declared.statement.LineFault.the-variants.{Memory, Unknown, Missing, Extra, Port, Hex}
+use Rattle.script.specs.declared.statement.LineFault.the-variants.{Memory, Unknown, Missing, Extra, Port, Hex, Word, Mixed, Side, Pile, Late}
 use Rattle.script.specs.Hex.{hex-of, Refuses}
 use Rattle.script.specs.Numbers.{Writes}
 
@@ -23,25 +20,38 @@ Says-port w (Err (Missing s)) = ⊥
 Says-port w (Err (Extra s)) = ⊥
 Says-port w (Err (Port s)) = Writes 16 w None × (string-bytes s ≡ w)
 Says-port w (Err (Hex e)) = ⊥
+Says-port w (Err (Word s e)) = ⊥
+Says-port w (Err Mixed) = ⊥
+Says-port w (Err (Side s)) = ⊥
+Says-port w (Err (Pile s)) = ⊥
+Says-port w (Err Late) = ⊥
 
 -- the digits that are to be a frame
-abbrev pub Says-key : ℕ → List ℕ → Result Statement LineFault → Type 0
-Says-key p t (Ok (Key port frame)) = (port ≡ p) × (hex-of t ≡ Ok (vec-items frame))
-Says-key p t (Ok (Keys port path)) = ⊥
-Says-key p t (Err Memory) = Unit {0}
-Says-key p t (Err (Unknown s)) = ⊥
-Says-key p t (Err (Missing s)) = ⊥
-Says-key p t (Err (Extra s)) = ⊥
-Says-key p t (Err (Port s)) = ⊥
-Says-key p t (Err (Hex e)) = Refuses e (hex-of t)
+abbrev pub Says-frame : {V : Type 0} → (V → List ℕ) → List ℕ → Result V LineFault → Type 0
+Says-frame items w (Ok frame) = hex-of w ≡ Ok (items frame)
+Says-frame items w (Err Memory) = Unit {0}
+Says-frame items w (Err (Unknown s)) = ⊥
+Says-frame items w (Err (Missing s)) = ⊥
+Says-frame items w (Err (Extra s)) = ⊥
+Says-frame items w (Err (Port s)) = ⊥
+Says-frame items w (Err (Hex e)) = Refuses e (hex-of w)
+Says-frame items w (Err (Word s e)) = ⊥
+Says-frame items w (Err Mixed) = ⊥
+Says-frame items w (Err (Side s)) = ⊥
+Says-frame items w (Err (Pile s)) = ⊥
+Says-frame items w (Err Late) = ⊥
 
 -- the word that is to be a path
-abbrev pub Says-keys : ℕ → List ℕ → Result Statement LineFault → Type 0
-Says-keys p t (Ok (Key port frame)) = ⊥
-Says-keys p t (Ok (Keys port path)) = (port ≡ p) × (string-bytes path ≡ t)
-Says-keys p t (Err Memory) = Unit {0}
-Says-keys p t (Err (Unknown s)) = ⊥
-Says-keys p t (Err (Missing s)) = ⊥
-Says-keys p t (Err (Extra s)) = ⊥
-Says-keys p t (Err (Port s)) = ⊥
-Says-keys p t (Err (Hex e)) = ⊥
+abbrev pub Says-path : {V : Type 0} → (V → List ℕ) → List ℕ → Result V LineFault → Type 0
+Says-path bytes w (Ok path) = bytes path ≡ w
+Says-path bytes w (Err Memory) = Unit {0}
+Says-path bytes w (Err (Unknown s)) = ⊥
+Says-path bytes w (Err (Missing s)) = ⊥
+Says-path bytes w (Err (Extra s)) = ⊥
+Says-path bytes w (Err (Port s)) = ⊥
+Says-path bytes w (Err (Hex e)) = ⊥
+Says-path bytes w (Err (Word s e)) = ⊥
+Says-path bytes w (Err Mixed) = ⊥
+Says-path bytes w (Err (Side s)) = ⊥
+Says-path bytes w (Err (Pile s)) = ⊥
+Says-path bytes w (Err Late) = ⊥

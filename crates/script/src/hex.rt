@@ -29,7 +29,7 @@ impl From<Refused<u8>> for HexFault as HexFaultFromRefused {
 }
 
 // The value of a hexadecimal digit.
-fn nibble(b: u8) -> Option<u8>
+pub(crate) fn nibble(b: u8) -> Option<u8>
     ensures value { λ r. ⌜ r ≡ nibble-of b ⌝ }
     ensures bound { λ r. ⌜ BySome r (Unit {0}) (λ n. n < 16) ⌝ }
 {

@@ -32,3 +32,19 @@ pub fn number16(word: &str) -> Option<u16>
     let n = number(word)?;
     u16::try_from(n).ok()
 }
+
+// A word's number of 32 bits.
+pub fn number32(word: &str) -> Option<u32>
+    ensures { λ r. ⌜ Writes 32 (now (word .entry)) r ⌝ }
+{
+    let n = number(word)?;
+    u32::try_from(n).ok()
+}
+
+// A word's number of 8 bits.
+pub fn number8(word: &str) -> Option<u8>
+    ensures { λ r. ⌜ Writes 8 (now (word .entry)) r ⌝ }
+{
+    let n = number(word)?;
+    u8::try_from(n).ok()
+}

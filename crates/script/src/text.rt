@@ -26,7 +26,7 @@ fn put(out: &mut Vec<u8>, text: &[u8])
     let _ = out.extend_from_slice(text);
 }
 
-fn digit(n: u8) -> u8
+pub(crate) fn digit(n: u8) -> u8
     requires { ⌜ n < 16 ⌝ }
     ensures { λ r. ⌜ r ≡ hex-digit n ⌝ }
 {
@@ -96,7 +96,7 @@ fn put_word(out: &mut Vec<u8>, high: u8, low: u8)
 }
 
 // A 64-bit number takes twenty digits at most.
-fn put_number(out: &mut Vec<u8>, n: u64)
+pub(crate) fn put_number(out: &mut Vec<u8>, n: u64)
     requires { ⌜ vec-len (now out) + 20 ≤ vec-cap (now out) ⌝ }
     ensures items { λ _. ⌜ Appended (vec-items (now (out .entry))) (vec-items (now (out .exit))) (decimal-text n) ⌝ }
     ensures len { λ _. ⌜ vec-len (now (out .exit)) ≤ vec-len (now (out .entry)) + 20 ⌝ }
@@ -253,7 +253,7 @@ fn put_reading(out: &mut Vec<u8>, k: &Key, ipv4: Option<Part<'_>>, transport: Op
 }
 
 // A refusal's number, and its detail in brackets.
-fn put_refusal(out: &mut Vec<u8>, number: u8, detail: u64)
+pub(crate) fn put_refusal(out: &mut Vec<u8>, number: u8, detail: u64)
     requires { ⌜ vec-len (now out) + 34 ≤ vec-cap (now out) ⌝ }
     ensures items { λ _. ⌜ Appended (vec-items (now (out .entry))) (vec-items (now (out .exit))) (refusal-text number detail) ⌝ }
     ensures len { λ _. ⌜ vec-len (now (out .exit)) ≤ vec-len (now (out .entry)) + 34 ⌝ }
@@ -286,7 +286,7 @@ pub struct Place {
     pub frame: Option<u64>,
 }
 
-fn put_place(out: &mut Vec<u8>, place: Place)
+pub(crate) fn put_place(out: &mut Vec<u8>, place: Place)
     requires { ⌜ vec-len (now out) + 41 ≤ vec-cap (now out) ⌝ }
     ensures items { λ _. ⌜ Appended (vec-items (now (out .entry))) (vec-items (now (out .exit))) (place-text place) ⌝ }
     ensures len { λ _. ⌜ vec-len (now (out .exit)) ≤ vec-len (now (out .entry)) + 41 ⌝ }
