@@ -154,7 +154,10 @@ fn run_keys(
     port: u16,
     path: &str,
 ) -> Result<(), RunFault> {
-    let Frames { mut input, mut capture } = open_frames(rt, line, path)?;
+    let Frames {
+        mut input,
+        mut capture,
+    } = open_frames(rt, line, path)?;
     for _ in 0..u64::MAX {
         match capture.advance(&mut input) {
             Ok(true) => {}
@@ -262,7 +265,10 @@ fn run_frames<L: Level, M: Level>(
     ensures a { λ _. ⌜ L·Level .sound (now (switches .exit) .a .level) ⌝ }
     ensures b { λ _. ⌜ M·Level .sound (now (switches .exit) .b .level) ⌝ }
 {
-    let Frames { mut input, mut capture } = open_frames(rt, line, path)?;
+    let Frames {
+        mut input,
+        mut capture,
+    } = open_frames(rt, line, path)?;
     for _ in 0..u64::MAX {
         match capture.advance(&mut input) {
             Ok(true) => {}

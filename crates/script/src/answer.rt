@@ -200,12 +200,7 @@ fn say_sums(out: &mut Vec<u8>, sums: Sums) -> Result<(), AllocError> {
 }
 
 // The line that answers `totals`.
-pub fn totals_line(
-    out: &mut Vec<u8>,
-    place: Place,
-    a: Sums,
-    b: Sums,
-) -> Result<(), AllocError> {
+pub fn totals_line(out: &mut Vec<u8>, place: Place, a: Sums, b: Sums) -> Result<(), AllocError> {
     say_start(out, place, "totals")?;
     say(out, b"A")?;
     say_sums(out, a)?;

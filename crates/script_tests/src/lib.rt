@@ -65,7 +65,10 @@ mod tests {
                 "add table=0 id=1 nw_src=10.0.0.0/33",
                 "line 1: 'nw_src=10.0.0.0/33': no mask of this field",
             ),
-            ("add table=0 id=1 id=1", "line 1: 'id=1': the name stands twice"),
+            (
+                "add table=0 id=1 id=1",
+                "line 1: 'id=1': the name stands twice",
+            ),
             ("remove id=1", "line 1: table= is missing"),
             (
                 "count table=0 id=1 next=1",
