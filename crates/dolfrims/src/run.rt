@@ -10,8 +10,9 @@ use datapath::Tables;
 use datapath::tables::TablesLevel;
 use script::answer::Answer;
 use script::answer::AnswerPartialEq;
-use script::answer::Tail;
 use script::answer::answer_line;
+use script::answer::frame_line;
+use script::answer::peek_line;
 use script::answer::report_line;
 use script::answer::totals_line;
 use script::capture::Capture;
@@ -153,7 +154,10 @@ fn run_keys(
     port: u16,
     path: &str,
 ) -> Result<(), RunFault> {
-    let Frames { mut input, mut capture } = open_frames(rt, line, path)?;
+    let Frames {
+        mut input,
+        mut capture,
+    } = open_frames(rt, line, path)?;
     for _ in 0..u64::MAX {
         match capture.advance(&mut input) {
             Ok(true) => {}
@@ -172,7 +176,7 @@ impl Book {
     fn answer(&mut self, line: u64, word: &str, both: Both) -> Result<(), RunFault> {
         self.note(both);
         let place = Place { line, frame: None };
-        answer_line(&mut self.out, place, word, both.a, both.b, Tail::Nothing)?;
+        answer_line(&mut self.out, place, word, both.a, both.b)?;
         Ok(())
     }
 
@@ -243,11 +247,7 @@ fn run_frame<L: Level, M: Level>(
     let said = switches.frame(port, frame);
     let both = said.both;
     book.note(both);
-    let tail = match both.a {
-        Answer::Ports(_) => Tail::Depths(said.a, said.b),
-        _ => Tail::Nothing,
-    };
-    answer_line(&mut book.out, place, "frame", both.a, both.b, tail)?;
+    frame_line(&mut book.out, place, both.a, both.b, said.a, said.b)?;
     Ok(())
 }
 
@@ -265,7 +265,10 @@ fn run_frames<L: Level, M: Level>(
     ensures a { λ _. ⌜ L·Level .sound (now (switches .exit) .a .level) ⌝ }
     ensures b { λ _. ⌜ M·Level .sound (now (switches .exit) .b .level) ⌝ }
 {
-    let Frames { mut input, mut capture } = open_frames(rt, line, path)?;
+    let Frames {
+        mut input,
+        mut capture,
+    } = open_frames(rt, line, path)?;
     for _ in 0..u64::MAX {
         match capture.advance(&mut input) {
             Ok(true) => {}
@@ -293,11 +296,7 @@ fn run_peek<L: Level, M: Level>(
     let both = said.both;
     book.note(both);
     let place = Place { line, frame: None };
-    let tail = match both.a {
-        Answer::Ports(_) => Tail::Masks(&said.a, &said.b),
-        _ => Tail::Nothing,
-    };
-    answer_line(&mut book.out, place, "peek", both.a, both.b, tail)?;
+    peek_line(&mut book.out, place, both.a, both.b, &said.a, &said.b)?;
     Ok(())
 }
 
@@ -399,15 +398,6 @@ fn run_statements<L: Level, M: Level>(
     Ok(())
 }
 
-// Two switches over tables with linear classifiers.
-fn linear_switches(
-    rt: &LibcRuntime,
-) -> Result<Switches<Tables<Linear>, Tables<Linear>>, AllocError> {
-    let a = Switch::new(Tables::<Linear>::new(rt.alloc(), ())?);
-    let b = Switch::new(Tables::<Linear>::new(rt.alloc(), ())?);
-    Ok(Switches { a, b })
-}
-
 // Runs the statements in their order, up to the first that fails. What was answered is written in any case.
 pub fn run(rt: &LibcRuntime, script: &[Numbered]) -> Result<(), RunFault> {
     let mut book = Book {
@@ -415,7 +405,12 @@ pub fn run(rt: &LibcRuntime, script: &[Numbered]) -> Result<(), RunFault> {
         standing: BTreeSet::new(rt.alloc()),
         differed: false,
     };
-    let mut switches = linear_switches(rt)?;
+    let a = Tables::<Linear>::new(rt.alloc(), ())?;
+    let b = Tables::<Linear>::new(rt.alloc(), ())?;
+    let mut switches = Switches {
+        a: Switch::new(a),
+        b: Switch::new(b),
+    };
     let result = run_statements(rt, &mut switches, &mut book, script);
     flush(rt, &mut book.out)?;
     result?;

@@ -60,8 +60,14 @@ fn forwarded(result: Result<Forwarded, SwitchFault>) -> (Answer, u8) {
 
 fn peeked(result: Result<Peek, SwitchFault>) -> (Answer, [u8; 36]) {
     match result {
-        Ok(p) => (Answer::Ports(p.ports), p.mask),
-        Err(fault) => (Answer::Refused(fault.number(), fault.detail()), [0; 36]),
+        Ok(p) => {
+            let mask = p.mask;
+            (Answer::Ports(p.ports), mask)
+        }
+        Err(fault) => {
+            let mask = [0u8; 36];
+            (Answer::Refused(fault.number(), fault.detail()), mask)
+        }
     }
 }
 

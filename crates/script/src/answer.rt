@@ -17,14 +17,6 @@ pub enum Answer {
     Refused(u8, u64),
 }
 
-// What stands behind an answer that both switches give.
-#[derive(Clone, Copy)]
-pub enum Tail<'a> {
-    Nothing,
-    Depths(u8, u8),
-    Masks(&'a [u8; 36], &'a [u8; 36]),
-}
-
 // What one switch has counted: frames, those at depth 1, at depth 2, and deeper.
 #[derive(Clone, Copy)]
 pub struct Sums {
@@ -88,24 +80,6 @@ fn say_answer(out: &mut Vec<u8>, answer: Answer) -> Result<(), AllocError> {
     }
 }
 
-fn say_tail(out: &mut Vec<u8>, tail: Tail<'_>) -> Result<(), AllocError> {
-    match tail {
-        Tail::Nothing => Ok(()),
-        Tail::Depths(a, b) => {
-            say(out, b" depth=A:")?;
-            say_number(out, u64::from(a))?;
-            say(out, b",B:")?;
-            say_number(out, u64::from(b))
-        }
-        Tail::Masks(a, b) => {
-            say(out, b" mask=A:")?;
-            say_mask(out, a)?;
-            say(out, b",B:")?;
-            say_mask(out, b)
-        }
-    }
-}
-
 // The place and the word that begin a line.
 fn say_start(out: &mut Vec<u8>, place: Place, word: &str) -> Result<(), AllocError> {
     out.reserve(41)?;
@@ -133,12 +107,64 @@ pub fn answer_line(
     word: &str,
     a: Answer,
     b: Answer,
-    tail: Tail<'_>,
 ) -> Result<(), AllocError> {
     say_start(out, place, word)?;
     say_both(out, a, b)?;
-    if a == b {
-        say_tail(out, tail)?;
+    say(out, b"\n")
+}
+
+// Whether both switches name the same ports.
+fn same_ports(a: Answer, b: Answer) -> bool {
+    match a {
+        Answer::Ports(_) => a == b,
+        _ => false,
+    }
+}
+
+fn say_depths(out: &mut Vec<u8>, a: u8, b: u8) -> Result<(), AllocError> {
+    say(out, b" depth=A:")?;
+    say_number(out, u64::from(a))?;
+    say(out, b",B:")?;
+    say_number(out, u64::from(b))
+}
+
+// The line that answers a frame, with the depths of both switches.
+pub fn frame_line(
+    out: &mut Vec<u8>,
+    place: Place,
+    a: Answer,
+    b: Answer,
+    depth_a: u8,
+    depth_b: u8,
+) -> Result<(), AllocError> {
+    say_start(out, place, "frame")?;
+    say_both(out, a, b)?;
+    if same_ports(a, b) {
+        say_depths(out, depth_a, depth_b)?;
+    }
+    say(out, b"\n")
+}
+
+fn say_masks(out: &mut Vec<u8>, a: &[u8; 36], b: &[u8; 36]) -> Result<(), AllocError> {
+    say(out, b" mask=A:")?;
+    say_mask(out, a)?;
+    say(out, b",B:")?;
+    say_mask(out, b)
+}
+
+// The line that answers `peek`, with the masks of both switches.
+pub fn peek_line(
+    out: &mut Vec<u8>,
+    place: Place,
+    a: Answer,
+    b: Answer,
+    mask_a: &[u8; 36],
+    mask_b: &[u8; 36],
+) -> Result<(), AllocError> {
+    say_start(out, place, "peek")?;
+    say_both(out, a, b)?;
+    if same_ports(a, b) {
+        say_masks(out, mask_a, mask_b)?;
     }
     say(out, b"\n")
 }
@@ -174,12 +200,7 @@ fn say_sums(out: &mut Vec<u8>, sums: Sums) -> Result<(), AllocError> {
 }
 
 // The line that answers `totals`.
-pub fn totals_line(
-    out: &mut Vec<u8>,
-    place: Place,
-    a: Sums,
-    b: Sums,
-) -> Result<(), AllocError> {
+pub fn totals_line(out: &mut Vec<u8>, place: Place, a: Sums, b: Sums) -> Result<(), AllocError> {
     say_start(out, place, "totals")?;
     say(out, b"A")?;
     say_sums(out, a)?;

@@ -103,7 +103,10 @@ pub impl fmt::Display for LineFault as LineFaultDisplay {
             LineFault::Word(word, fault) => write!(f, "'{word}': {fault}"),
             LineFault::Mixed => write!(f, "fields and mask= value= do not go together"),
             LineFault::Side(word) => write!(f, "'{word}' is no switch: A or B"),
-            LineFault::Pile(word) => write!(f, "'{word}' is nothing that a switch is made of: linear"),
+            LineFault::Pile(word) => write!(
+                f,
+                "'{word}' is nothing that a switch is made of: linear"
+            ),
             LineFault::Late => write!(f, "a switch is set up behind the first call"),
         }
     }

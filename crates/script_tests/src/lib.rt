@@ -47,6 +47,46 @@ mod tests {
     }
 
     #[test]
+    fn rule_faults(rt: LibcRuntime) -> Result<(), Fail> {
+        let cases = [
+            (
+                "add table=4294967296 id=1",
+                "line 1: 'table=4294967296': the table is no number of 32 bits",
+            ),
+            (
+                "add table=0 id=1 ports=1,64",
+                "line 1: 'ports=1,64': no list of ports from 0 to 63, and not none",
+            ),
+            (
+                "add table=0 id=1 nw_ttl=256",
+                "line 1: 'nw_ttl=256': no value of this field",
+            ),
+            (
+                "add table=0 id=1 nw_src=10.0.0.0/33",
+                "line 1: 'nw_src=10.0.0.0/33': no mask of this field",
+            ),
+            (
+                "add table=0 id=1 id=1",
+                "line 1: 'id=1': the name stands twice",
+            ),
+            ("remove id=1", "line 1: table= is missing"),
+            (
+                "count table=0 id=1 next=1",
+                "line 1: 'next=1': no such name in this statement",
+            ),
+            (
+                "totals\nswitch A linear",
+                "line 2: a switch is set up behind the first call",
+            ),
+            ("switch C linear", "line 1: 'C' is no switch: A or B"),
+        ];
+        for (text, fault) in cases {
+            check_eq(fault_of(&rt, text)?.as_str(), fault)?;
+        }
+        Ok(())
+    }
+
+    #[test]
     fn script_statements(rt: LibcRuntime) -> Result<(), Fail> {
         let script = parse(rt.alloc(), "# none\n\nkey 0xFfFf aB\r\n\tkeys 7 x#y z\n")?;
         check_eq(script.len(), 2)
