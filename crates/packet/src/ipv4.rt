@@ -99,11 +99,12 @@ fn flags_of(protocol: u8, t: &[u8]) -> u16
     requires { ⌜ (protocol ≡ 6 → 20 ≤ length (now t)) ⌝ }
     ensures { λ r. ⌜ r ≡ cond (eqb protocol 6) (word (now (t .entry)) 12 % 0x1000) 0 ⌝ }
 {
-    if protocol == 6 {
-        word_at(t, 12) % 0x1000
-    } else {
-        0
+    if t.len() < 20 {
+        return 0;
     }
+    // read for either protocol, so that no jump hangs on it
+    let flags = word_at(t, 12) % 0x1000;
+    if protocol == 6 { flags } else { 0 }
 }
 
 // The ports and the flags of a transport part, zero where its header is cut or of another protocol.
