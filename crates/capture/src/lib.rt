@@ -1,3 +1,5 @@
 // Packet captures: the classic pcap format.
+#![tactic(auto)]
+
 pub mod header;
 pub mod reader;

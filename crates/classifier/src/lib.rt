@@ -1,4 +1,6 @@
 // Which of the rules of one table decides a key.
+#![tactic(auto)]
+
 pub mod classifier;
 pub mod element;
 pub mod fault;

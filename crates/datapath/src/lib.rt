@@ -1,4 +1,6 @@
 // The walk over four tables, what a level promises, and the tables as the lowest level.
+#![tactic(auto)]
+
 pub mod fault;
 pub mod laws;
 pub mod level;

@@ -1,4 +1,6 @@
 // The program: reads scripts from the files that are named as arguments, or from standard input, and runs them.
+#![tactic(auto)]
+
 mod run;
 
 use run::{RunFault, run};

@@ -1,4 +1,6 @@
 // Which filled slot of a cache leaves when room is wanted.
+#![tactic(auto)]
+
 pub mod any_policy;
 mod bitmap;
 pub mod clock;

@@ -1,4 +1,6 @@
 // The reader for callers in C and Rust.
+#![tactic(auto)]
+
 ghost use Rattle.std.specs.Prelude.{◌≡◌};
 ghost use Rattle.exports.specs.Answers.{answer_of, held_after};
 

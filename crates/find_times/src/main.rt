@@ -1,4 +1,6 @@
 // How long finds take, and what they answer, for 64 rules: bench/README.md.
+#![tactic(auto)]
+
 mod samples;
 
 use classifier::{Classifier, Find};

@@ -1,4 +1,6 @@
 // Masked keys: which bits of a key a mask names, and which keys a mask and a value cover.
+#![tactic(auto)]
+
 pub mod masked_key;
 pub mod rows;
 #[cfg(test)]

@@ -1,4 +1,6 @@
 // From a frame to its key: Ethernet II, one 802.1Q tag, IPv4, TCP and UDP.
+#![tactic(auto)]
+
 mod ethernet;
 pub mod fault;
 mod ipv4;

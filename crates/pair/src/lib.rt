@@ -1,4 +1,6 @@
 // The two switches of a script, which get every call, and the answers that they give.
+#![tactic(auto)]
+
 pub mod book;
 pub mod calls;
 pub mod switches;

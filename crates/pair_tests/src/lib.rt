@@ -1,4 +1,6 @@
 // Tests of two switches that do not agree: B begins with a rule that A has not.
+#![tactic(auto)]
+
 #[cfg(test)]
 mod tests {
     use classifier::{Classifier, Linear};

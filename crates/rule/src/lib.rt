@@ -1,4 +1,6 @@
 // Rules as the words of a script write them.
+#![tactic(auto)]
+
 pub mod draft;
 mod field;
 mod parts;

@@ -1,4 +1,6 @@
 // Tests of the text language: what a tester sees of a script or a capture that is at fault.
+#![tactic(auto)]
+
 #[cfg(test)]
 mod tests {
     use capture::reader::Capture;

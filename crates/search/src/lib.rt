@@ -1,4 +1,6 @@
 // The search inside a tuple: of elements with one mask, the one of highest rank that covers a key, by a hash index.
+#![tactic(auto)]
+
 pub mod element;
 pub mod hash;
 pub mod index;

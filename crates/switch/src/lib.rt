@@ -1,4 +1,6 @@
 // The switch over any level.
+#![tactic(auto)]
+
 pub mod fault;
 pub mod switch;
 pub mod totals;

@@ -1,4 +1,6 @@
 // The lines that the program prints.
+#![tactic(auto)]
+
 pub mod answer;
 pub mod key;
 pub mod place;

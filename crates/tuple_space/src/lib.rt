@@ -1,4 +1,6 @@
 // Tuple-space search: a classifier that groups its rules by mask and searches each group by a hash.
+#![tactic(auto)]
+
 mod indexed;
 mod masks;
 pub mod ranked_mask;

@@ -1,4 +1,6 @@
 // Holds the reader to a table of frames whose fields another program read: docs/VECTORS.md says which.
+#![tactic(auto)]
+
 mod fields;
 mod limits;
 mod text;
