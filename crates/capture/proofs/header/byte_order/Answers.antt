@@ -61,16 +61,16 @@ returns-in-err-order c =
 pub returns-then-version-ne2 : goal.returns-then-version-ne2
 unfolding two
 returns-then-version-ne2 c =
-    bad_version c.args.h.now c.in-ok-order.order c.word-version.result c.in-ok-order.ensures c.word-version.ensures c.if-version-ne2.true
+    bad_version c.args.h.now c.in_ok-order.order c.word-version.result c.in_ok-order.ensures c.word-version.ensures c.if-version-ne2.true
 
 pub returns-then-link-ne1 : goal.returns-then-link-ne1
 unfolding two four
 returns-then-link-ne1 c =
-    bad_link c.in-ok-order.order c.number-link.result c.if-link-ne1.true
-    ∙ good_version c.args.h.now c.in-ok-order.order c.word-version.result c.number-link.result c.in-ok-order.ensures c.word-version.ensures c.if-version-ne2.false c.number-link.ensures
+    bad_link c.in_ok-order.order c.number-link.result c.if-link-ne1.true
+    ∙ good_version c.args.h.now c.in_ok-order.order c.word-version.result c.number-link.result c.in_ok-order.ensures c.word-version.ensures c.if-version-ne2.false c.number-link.ensures
 
 pub returns : goal.returns
 unfolding two four
 returns c =
-    good_link c.in-ok-order.order c.number-link.result c.if-link-ne1.false
-    ∙ good_version c.args.h.now c.in-ok-order.order c.word-version.result c.number-link.result c.in-ok-order.ensures c.word-version.ensures c.if-version-ne2.false c.number-link.ensures
+    good_link c.in_ok-order.order c.number-link.result c.if-link-ne1.false
+    ∙ good_version c.args.h.now c.in_ok-order.order c.word-version.result c.number-link.result c.in_ok-order.ensures c.word-version.ensures c.if-version-ne2.false c.number-link.ensures
