@@ -53,10 +53,10 @@ good_link : (o : Order) (l : ℕ) → l ≡ 1 → Ok o ≡ by_link o l
 unfolding by_link
 good_link o l n = sym (ap (λ b. cond b (Ok o) (Err (LinkType l))) (eq-eqb l 1 n))
 
-pub returns-in-err-order : goal.returns-in-err-order
-returns-in-err-order c =
-    let p = err_from_is_err_and c.from-residual.result c.from-residual.ensures.1 in
-    rw (p.1, p.2) (ap (checked_header c.args.h.now) c.in-err-order.ensures)
+pub returns-in_err-order : goal.returns-in_err-order
+returns-in_err-order c =
+    let p = err_from_is_err_and c.from_residual.result c.from_residual.ensures.1 in
+    rw (p.1, p.2) (ap (checked_header c.args.h.now) c.in_err-order.ensures)
 
 pub returns-then-version-ne2 : goal.returns-then-version-ne2
 unfolding two
