@@ -19,12 +19,12 @@ loop-i-init g c = (
   omega arith,
   refl,
   tt,
-  subst (λ m. Going (map g.C.Classifier.rules (vec_items c.args.self.now.classifiers)) c.args.key.now 4 0 0 m []) (sym c.empty-mask-mask.ensures) (begin _ _),
-  λ w j. subst (λ m. Joins (λ t f. TableGives g.C.Classifier.gives (vec_items c.args.self.now.classifiers) t c.args.key.now f) 4 (map g.C.Classifier.rules (vec_items c.args.self.now.classifiers)) 0 c.args.key.now m w) c.empty-mask-mask.ensures j,
+  subst (λ m. Going (map g.C.Classifier.rules (vec_items c.args.self.now.classifiers)) c.args.key.now 4 0 0 m []) (sym c.empty_mask-mask.ensures) (begin _ _),
+  λ w j. subst (λ m. Joins (λ t f. TableGives g.C.Classifier.gives (vec_items c.args.self.now.classifiers) t c.args.key.now f) 4 (map g.C.Classifier.rules (vec_items c.args.self.now.classifiers)) 0 c.args.key.now m w) c.empty_mask-mask.ensures j,
 )
 
-pub returns-in-default : goal.returns-in-default
-returns-in-default g c =
+pub returns-in_default : goal.returns-in_default
+returns-in_default g c =
     let f = g.C.Classifier.rules in
     let xs = vec_items c.args.self.now.classifiers in
     let t = c.loop-i.table in
@@ -39,13 +39,13 @@ returns-in-default g c =
     let G = λ (u : ℕ) (y : List ℕ). TableGives g.C.Classifier.gives xs u k y in
     let own : TableGives g.C.Classifier.gives xs t k m = table_gives_at g.C.Classifier.gives xs t k m c.index.result.now lt c.index.ensures c.find-find.ensures.given in
     let back = λ (w : List ℕ) (j : Joins G (suc (4 - (i + 1))) (map f xs) t k c.loop-i.mask w). c.loop-i.invariant.4 w (subst (λ n. Joins G n (map f xs) t k c.loop-i.mask w) (sym fuel) j) in
-    let no : found (table_of (map f xs) t) k ≡ None = ap (λ rs. found rs k) at ∙ sym c.find-find.ensures.rule ∙ none_since _ c.in-default.not-Some in
+    let no : found (table_of (map f xs) t) k ≡ None = ap (λ rs. found rs k) at ∙ sym c.find-find.ensures.rule ∙ none_since _ c.in_default.not-Some in
     let e = stop (map f xs) k _ t _ _ _ m s safe no in
     record {
       crossed = e.crossed;
       ports = e.ports;
-      mask = subst (Tells (map f xs) k) (sym c.union-into.ensures) e.mask;
-      given = back c.union-into.new.into (joins_stop G (4 - (i + 1)) (map f xs) t k c.loop-i.mask m c.union-into.new.into own no (sym c.union-into.ensures));
+      mask = subst (Tells (map f xs) k) (sym c.union_into.ensures) e.mask;
+      given = back c.union_into.new.into (joins_stop G (4 - (i + 1)) (map f xs) t k c.loop-i.mask m c.union_into.new.into own no (sym c.union_into.ensures));
       few = omega arith;
       places = c.loop-i.invariant.2;
     }
@@ -75,8 +75,8 @@ returns-then-rule-eq0 g c =
     record {
       crossed = push ∙ e.crossed;
       ports = e.ports;
-      mask = subst (Tells (map f xs) k) (sym c.union-into.ensures) e.mask;
-      given = back c.union-into.new.into (joins_last G (4 - (i + 1)) (map f xs) t k c.loop-i.mask m c.union-into.new.into own h some c.if-rule-eq0.true (sym c.union-into.ensures));
+      mask = subst (Tells (map f xs) k) (sym c.union_into.ensures) e.mask;
+      given = back c.union_into.new.into (joins_last G (4 - (i + 1)) (map f xs) t k c.loop-i.mask m c.union_into.new.into own h some c.if-rule-eq0.true (sym c.union_into.ensures));
       few = omega (arith, c.loop-i-test.true);
       places = low;
     }
@@ -107,10 +107,10 @@ loop-i-preserved g c =
       omega (arith, found_next (map f xs) t k h c.requires.forward wide some c.if-rule-eq0.false, c.from-table.ensures),
       simp length-set c.loop-i.invariant.1,
       low,
-      subst (λ u. Going (map f xs) k (4 - (i + 1)) u (bit_or c.loop-i.ports h.ports) c.union-into.new.into (take (i + 1) (set c.loop-i.crossed i (mark_of t h)))) (sym c.from-table.ensures)
-          (subst (λ x. Going (map f xs) k (4 - (i + 1)) h.next (bit_or c.loop-i.ports h.ports) x (take (i + 1) (set c.loop-i.crossed i (mark_of t h)))) (sym c.union-into.ensures)
+      subst (λ u. Going (map f xs) k (4 - (i + 1)) u (bit_or c.loop-i.ports h.ports) c.union_into.new.into (take (i + 1) (set c.loop-i.crossed i (mark_of t h)))) (sym c.from-table.ensures)
+          (subst (λ x. Going (map f xs) k (4 - (i + 1)) h.next (bit_or c.loop-i.ports h.ports) x (take (i + 1) (set c.loop-i.crossed i (mark_of t h)))) (sym c.union_into.ensures)
           (subst (Going (map f xs) k (4 - (i + 1)) h.next (bit_or c.loop-i.ports h.ports) (union c.loop-i.mask m)) (sym push) e)),
-      λ w j. back w (joins_onward G (4 - (i + 1)) (map f xs) t k c.loop-i.mask m w own h some c.if-rule-eq0.false (subst (λ u. Joins G (4 - (i + 1)) (map f xs) u k (union c.loop-i.mask m) w) c.from-table.ensures (subst (λ x. Joins G (4 - (i + 1)) (map f xs) c.from-table.result k x w) c.union-into.ensures j))),
+      λ w j. back w (joins_onward G (4 - (i + 1)) (map f xs) t k c.loop-i.mask m w own h some c.if-rule-eq0.false (subst (λ u. Joins G (4 - (i + 1)) (map f xs) u k (union c.loop-i.mask m) w) c.from-table.ensures (subst (λ x. Joins G (4 - (i + 1)) (map f xs) c.from-table.result k x w) c.union_into.ensures j))),
     )
 
 pub returns : goal.returns
