@@ -1,5 +1,5 @@
 -- The facts about a place of a store, from the rule that stands there.
-use Rattle.std.proofs.Common.{◌≡◌, ℕ, zero, suc, ◌+◌, ◌<◌, Bool, true, false, cond, List, [], ◌∷◌, ◌++◌, length, get_or, take, drop, set, Some, None, Option, sym, refl, ap, ◌∙◌, subst, arith}
+use Rattle.std.proofs.Common.{◌≡◌, ℕ, zero, suc, ◌<◌, true, false, List, [], ◌∷◌, ◌++◌, length, get_or, take, drop, Some, None, Option, sym, refl, ap, ◌∙◌, subst, arith}
 use Rattle.std.specs.List as holes
 use Rattle.std.specs.Option.{option_map}
 use Rattle.std.specs.List.{AllByRecursion as All}
@@ -8,15 +8,15 @@ use Rattle.std.proofs.ByRecursion.{All-get_or}
 use Rattle.flow.specs.Masks.{union, empty_mask}
 use Rattle.flow.proofs.WholeLaws.{empty_union}
 use Rattle.classifier.specs.declared.rule.Rule.{Rule}
-use Rattle.classifier.specs.Rules.{SoundRule, found, named, FindMask}
-use Rattle.classifier.specs.Tables.{stands, clash, add_refusal, added, removed, raised, credited, count_of, missing_refusal, Refusal}
+use Rattle.classifier.specs.Rules.{found, named, FindMask}
+use Rattle.classifier.specs.Tables.{stands, clash, add_refusal, added, removed, credited, missing_refusal, Refusal}
 use Rattle.classifier.specs.Stores.{by_id, ranked, standing, sound_test, StandsAt, first_match, looked_at, linear_mask}
 use Rattle.classifier.specs.Places.{Absent, Placed, admission}
 use Rattle.classifier.specs.Inserts.{Pairs}
-use Rattle.classifier.specs.ByIdLaws.{Other, stands_by_id, length_by_id, by_id_insert, by_id_remove, by_id_credit, credited_at, credited_missing, at_id_by_id, at_id_place}
+use Rattle.classifier.specs.ByIdLaws.{Other, stands_by_id, by_id_remove, by_id_credit, credited_at, credited_missing, at_id_by_id, at_id_place}
 use Rattle.classifier.specs.RankLaws.{by_id_ranked, found_by_id, looked_long, linear_mask_by_id, find_mask_looked}
-use Rattle.classifier.specs.LawsLemmas.{Admitted, admitted}
-use Rattle.classifier.specs.StandingLaws.{Stored, stored_from_test, test_from_stored, sound_from_test, stored_ranked, stored_removed, stored_credited, add_refusal_stored}
+use Rattle.classifier.specs.LawsLemmas.{admitted}
+use Rattle.classifier.specs.StandingLaws.{stored_from_test, test_from_stored, sound_from_test, stored_ranked, stored_removed, stored_credited, add_refusal_stored}
 
 pub absent_from : (xs : List Rule) (i : ℕ) → stands xs i ≡ false → Absent xs i
 unfolding missing_refusal

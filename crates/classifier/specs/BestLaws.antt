@@ -1,12 +1,12 @@
 -- The best rule does not depend on the order of the rules; in falling priority it is the first that matches.
-use Rattle.std.specs.Prelude.{◌≡◌, ℕ, zero, suc, ◌<◌, ◌≤◌, Bool, true, false, cond, ◌⊎◌, List, [], ◌∷◌, Some, None, Option, ◌≢◌, nat_lt, refl}
+use Rattle.std.specs.Prelude.{◌≡◌, ℕ, ◌<◌, ◌≤◌, Bool, true, false, cond, ◌⊎◌, List, [], ◌∷◌, Some, None, Option, ◌≢◌, nat_lt, refl}
 use Rattle.std.proofs.Common.{sym, ap, ◌∙◌, inl, inr, ⊎_elim, arith}
 use Rattle.std.specs.List.{AllByRecursion as All}
-use Rattle.std.proofs.lemmas.Bool.{cond_both, cond-true, cond-false, cases_Bool, cases_order, lt-ltb, le-ltb, ltb-true, ltb-false, both_ways, true≢false}
+use Rattle.std.proofs.lemmas.Bool.{cond_both, cond-true, cond-false, cases_Bool, cases_order, lt-ltb, le-ltb, both_ways}
 use Rattle.std.proofs.ByRecursion.{All-weaker}
 use Rattle.std.specs.Str.{bytes_eq}
-use Rattle.flow.specs.Masks.{Agree, covered, overlapping}
-use Rattle.flow.proofs.MaskLaws.{covered_decides, covers_alike}
+use Rattle.flow.specs.Masks.{Agree, covered}
+use Rattle.flow.proofs.MaskLaws.{covered_decides}
 use Rattle.flow.proofs.OverlapLaws.{overlapping_from_both, overlapping_sym}
 use Rattle.classifier.specs.declared.rule.Rule.{Rule}
 use Rattle.classifier.specs.Rules.{matches, clashing, higher, best, Apart}

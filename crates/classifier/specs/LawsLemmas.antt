@@ -1,17 +1,17 @@
 -- The laws of rule lists that the crates above use: what keeps a list lawful, and that the best rule decides.
-use Rattle.std.specs.Prelude.{◌≡◌, ℕ, zero, suc, ◌+◌, ◌%◌, ◌^◌, ◌<◌, ◌≤◌, Bool, true, false, cond, not, ◌⊎◌, List, [], ◌∷◌, map, length, Some, None, filter, Option, ◌==◌, nat_le, nat_lt, refl}
-use Rattle.std.proofs.Common.{sym, ap, subst, ◌∙◌, inl, inr, ⊎_elim, arith}
+use Rattle.std.specs.Prelude.{◌≡◌, ℕ, ◌<◌, ◌≤◌, Bool, true, false, cond, not, ◌⊎◌, List, [], ◌∷◌, length, Some, None, filter, Option, ◌==◌, nat_le, nat_lt, refl}
+use Rattle.std.proofs.Common.{sym, subst, inl, inr, ⊎_elim, arith}
 use Rattle.std.specs.List.{ContainsAt as Has, AllByRecursion as All}
 use Rattle.std.proofs.lemmas.List.{length-map}
-use Rattle.std.proofs.lemmas.Bool.{cond_both, cases_Bool, cases_order, ltb-true, ltb-false, leb-false, both_ways}
+use Rattle.std.proofs.lemmas.Bool.{cond_both, cases_order, ltb-true, ltb-false, leb-false, both_ways}
 use Rattle.std.proofs.ByRecursion.{All-weaker, all-has, all_kept_by, has_append_right}
 use Rattle.classifier.specs.declared.rule.Rule.{Rule}
-use Rattle.classifier.specs.Rules.{matches, clashing, higher, best, SoundRule, Rising, Apart, Lawful}
-use Rattle.classifier.specs.Tables.{Refusal, stands, clash, clash_refusal, add_refusal, added, removed, plus, raised, credited}
-use Rattle.classifier.specs.Laws.{DecidesKey, Decided, BestDecides}
-use Rattle.classifier.specs.Inserts.{Pairs, all_over, pairs_over, pairs_kept_by, length_kept_by, pairs_weaker}
-use Rattle.classifier.specs.ByIdLaws.{Other, credit_one, length_added, all_added, pairs_added, rising_added, rising_from_pairs, pairs_from_rising, fresh_from_stands, apart_from_clash}
-use Rattle.classifier.specs.BestLaws.{Untied, clashing_sym, untied_sym, apart_from_pairs, pairs_from_apart, priorities_differ}
+use Rattle.classifier.specs.Rules.{matches, clashing, higher, best, SoundRule, Lawful}
+use Rattle.classifier.specs.Tables.{Refusal, stands, clash, clash_refusal, add_refusal, added, removed, raised, credited}
+use Rattle.classifier.specs.Laws.{Decided, BestDecides}
+use Rattle.classifier.specs.Inserts.{Pairs, all_over, pairs_over, pairs_kept_by, length_kept_by}
+use Rattle.classifier.specs.ByIdLaws.{credit_one, length_added, all_added, pairs_added, rising_added, rising_from_pairs, pairs_from_rising, fresh_from_stands, apart_from_clash}
+use Rattle.classifier.specs.BestLaws.{Untied, untied_sym, apart_from_pairs, pairs_from_apart, priorities_differ}
 
 -- an add that is not refused ---------------------------------------------------------------------------------
 

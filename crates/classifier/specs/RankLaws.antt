@@ -1,16 +1,16 @@
 -- The order of looking: rules of two ids go in, in either turn, and what a search down the order looks at.
-use Rattle.std.specs.Prelude.{◌≡◌, ℕ, zero, suc, ◌<◌, ◌≤◌, Bool, true, false, cond, ◌&&◌, ◌||◌, ◌⊎◌, List, [], ◌∷◌, length, take, Some, None, Option, ◌==◌, nat_lt, slice_index_or, refl}
+use Rattle.std.specs.Prelude.{◌≡◌, ℕ, suc, ◌<◌, ◌≤◌, true, false, cond, ◌&&◌, ◌⊎◌, List, [], ◌∷◌, length, take, Some, None, ◌==◌, nat_lt, slice_index_or, refl}
 use Rattle.std.proofs.Common.{sym, ap, subst, ◌∙◌, inl, inr, ⊎_elim, arith}
 use Rattle.std.specs.List.{insert, AllByRecursion as All}
 use Rattle.std.proofs.lemmas.List.{get_or_default, take_all}
 use Rattle.std.specs.Option.{option_map}
-use Rattle.std.proofs.lemmas.Bool.{cond_both, cond-true, cond-false, cases_Bool, cases_order, lt-ltb, le-ltb, ltb-true, ltb-false, eq-eqb, eqb-true, or_left, or_right, or_from, or_cases, or_parts, and_parts, and_from, and_left, and_right, ne_eqb, both_ways}
+use Rattle.std.proofs.lemmas.Bool.{cond_both, cond-true, cond-false, cases_Bool, cases_order, lt-ltb, le-ltb, ltb-true, eq-eqb, eqb-true, or_left, or_right, or_cases, and_parts, and_from, both_ways}
 use Rattle.std.proofs.ByRecursion.{All-weaker}
-use Rattle.flow.specs.Masks.{Bytes36, Agree, Within, union, empty_mask}
+use Rattle.flow.specs.Masks.{Agree, Within, union, empty_mask}
 use Rattle.flow.proofs.MaskLaws.{within_refl, within_trans, within_left, within_right, within_union, agree_left, agree_right, length_union}
 use Rattle.flow.proofs.WholeLaws.{empty_bytes}
 use Rattle.classifier.specs.declared.rule.Rule.{Rule}
-use Rattle.classifier.specs.Rules.{matches, clashing, best, named, found, bits_of, Adequate, FindMask, SoundRule}
+use Rattle.classifier.specs.Rules.{matches, clashing, named, found, bits_of, Adequate, FindMask, SoundRule}
 use Rattle.classifier.specs.Tables.{added, clash, stands}
 use Rattle.classifier.specs.Stores.{by_id, first_match, before, ranked, by_rank, looked_at, linear_mask}
 use Rattle.classifier.specs.Inserts.{Pairs, put, length_put, all_put, pairs_put, sorted_put, put_front, put_comm, inserted_put, inserted_last}

@@ -1,6 +1,6 @@
 -- What a store in the order of looking keeps, from its test and back, and over each change.
-use Rattle.std.specs.Prelude.{◌≡◌, ℕ, zero, suc, ◌+◌, ◌^◌, ◌<◌, ◌≤◌, Bool, true, false, cond, not, ◌&&◌, ltb, ◌⊎◌, List, [], ◌∷◌, ◌++◌, length, Some, None, Option, ◌==◌, nat_le, nat_lt, slice_index, refl}
-use Rattle.std.proofs.Common.{sym, ap, subst, ◌∙◌, inl, inr, ⊎_elim, arith}
+use Rattle.std.specs.Prelude.{◌≡◌, ℕ, zero, suc, ◌^◌, ◌<◌, ◌≤◌, Bool, true, false, not, ◌&&◌, ltb, List, [], ◌∷◌, length, None, ◌==◌, nat_le, nat_lt, slice_index, refl}
+use Rattle.std.proofs.Common.{sym, ap, subst, ◌∙◌, ⊎_elim, arith}
 use Rattle.std.specs.List as holes
 use Rattle.std.specs.List.{AllByRecursion as All, list_all}
 use Rattle.std.proofs.lemmas.Bool.{and_parts, and_from, eqb-true, eqb-false, eq-eqb, ne_eqb, ltb-true, lt-ltb, leb-true, le-leb, not-true, not_from_false, cases_Bool}
@@ -10,7 +10,7 @@ use Rattle.flow.specs.Masks.{Bytes36, Within, inside}
 use Rattle.flow.proofs.MaskLaws.{inside_decides}
 use Rattle.classifier.specs.declared.rule.Rule.{Rule}
 use Rattle.classifier.specs.Rules.{clashing, SoundRule, Lawful, new_rule}
-use Rattle.classifier.specs.Tables.{stands, clash, add_refusal, clash_refusal, raised, credited}
+use Rattle.classifier.specs.Tables.{stands, clash, add_refusal, credited}
 use Rattle.classifier.specs.Stores.{by_id, before, ranked, bytes_test, sound_test, pair_test, pairs_test, standing}
 use Rattle.classifier.specs.Inserts.{Pairs, all_removed, pairs_removed, pairs_weaker}
 use Rattle.classifier.specs.ByIdLaws.{Other, length_by_id, all_by_id, pairs_by_id, rising_by_id, fresh_from_stands, stands_by_id}

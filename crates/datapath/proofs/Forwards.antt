@@ -1,12 +1,11 @@
 -- Each rule's next table stays a good one.
-use Rattle.std.proofs.Common.{◌≡◌, ℕ, zero, suc, ◌+◌, ◌<◌, Bool, true, false, cond, not, eqb, ltb, List, [], ◌∷◌, map, length, get_or, set, sym, refl, ap, ◌∙◌, subst, arith, length-set}
+use Rattle.std.proofs.Common.{◌≡◌, ℕ, zero, suc, ◌+◌, ◌<◌, true, false, cond, not, eqb, ltb, List, [], ◌∷◌, length, set, subst, arith, length-set}
 use Rattle.std.specs.List.{AllByRecursion as All}
 use Rattle.std.proofs.ByRecursion.{all_kept_by}
 use Rattle.classifier.specs.declared.rule.Rule.{Rule}
-use Rattle.classifier.specs.Rules.{Lawful}
 use Rattle.classifier.specs.Tables.{raised, credited, added, removed}
 use Rattle.datapath.specs.declared.level.Mark.{Mark}
-use Rattle.datapath.specs.Walk.{TablesOf, table_of, good_next, Forward, credit_at, credit_along, walk, due}
+use Rattle.datapath.specs.Walk.{TablesOf, table_of, good_next, Forward, credit_at, credit_along}
 use Rattle.datapath.proofs.Nexts.{forward_at}
 
 -- a rule whose next table is good for its own

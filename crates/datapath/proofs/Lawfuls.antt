@@ -1,5 +1,5 @@
 -- The tables stay lawful as counts grow.
-use Rattle.std.proofs.Common.{◌≡◌, ℕ, zero, suc, ◌<◌, Bool, true, false, cond, eqb, ◌⊎◌, List, [], ◌∷◌, length, set, Some, None, Option, sym, refl, ap, ◌∙◌, subst, ⊎_elim, arith, length-set}
+use Rattle.std.proofs.Common.{◌≡◌, ℕ, zero, suc, ◌<◌, eqb, List, [], ◌∷◌, length, Some, None, Option, refl, ◌∙◌, arith, length-set}
 use Rattle.std.specs.List.{AllByRecursion as All}
 use Rattle.std.proofs.ByRecursion.{All-get_or, All-set}
 use Rattle.std.proofs.lemmas.Bool.{cond_both, eqb-false}
@@ -8,7 +8,7 @@ use Rattle.classifier.specs.Rules.{Lawful, found}
 use Rattle.classifier.specs.Tables.{credited}
 use Rattle.classifier.specs.LawsLemmas.{lawful_credited}
 use Rattle.datapath.specs.declared.level.Mark.{Mark}
-use Rattle.datapath.specs.Walk.{TablesOf, table_of, mark_of, crossing, walk_from, walk, credit_at, credit_along, due, Forward, LawfulTables}
+use Rattle.datapath.specs.Walk.{TablesOf, table_of, crossing, walk_from, walk, credit_at, credit_along, due, Forward, LawfulTables}
 use Rattle.datapath.proofs.Nexts.{found_next}
 use Rattle.datapath.proofs.Forwards.{forward_along}
 

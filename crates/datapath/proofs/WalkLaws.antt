@@ -1,16 +1,15 @@
 -- The laws of the walk and of the counts that it moves: what caches use, so that none of them looks into the walk.
-use Rattle.std.proofs.Common.{◌≡◌, ℕ, zero, suc, ◌+◌, ◌^◌, ◌<◌, Bool, true, false, cond, eqb, List, [], ◌∷◌, ◌++◌, length, get_or, set, Some, None, Option, sym, refl, ap, ◌∙◌, ap₂, arith}
+use Rattle.std.proofs.Common.{◌≡◌, ℕ, zero, suc, ◌^◌, ◌<◌, true, false, cond, eqb, List, [], ◌∷◌, ◌++◌, Some, None, Option, sym, refl, ap, ◌∙◌}
 use mathlib.Core.Path.{fun_ext}
 use Rattle.classifier.specs.declared.rule.Match.{Match}
 use Rattle.std.specs.List.{AllByRecursion as All}
 use Rattle.std.proofs.ByRecursion.{All-weaker}
-use Rattle.flow.specs.Masks.{Bytes36, Agree, Covers, Within}
+use Rattle.flow.specs.Masks.{Within}
 use Rattle.flow.proofs.MaskLaws.{agree_within}
-use Rattle.classifier.specs.declared.rule.Rule.{Rule}
 use Rattle.classifier.specs.Rules.{Lawful, SoundRule, found}
-use Rattle.classifier.specs.Tables.{plus, credited}
+use Rattle.classifier.specs.Tables.{plus}
 use Rattle.datapath.specs.declared.level.Mark.{Mark}
-use Rattle.datapath.specs.Walk.{TablesOf, table_of, crossing, walk_from, walk, ports_of, Alike, Tells, credit_at, credit_along, due, LawfulTables}
+use Rattle.datapath.specs.Walk.{TablesOf, table_of, crossing, walk_from, walk, ports_of, Alike, Tells, credit_at, credit_along, due}
 use Rattle.datapath.specs.Laws.{DecidedThere, WalkLaws}
 use Rattle.datapath.specs.Entries.{Entry, TrueEntry, AllTrue}
 use Rattle.datapath.proofs.Counts.{credited_swap, credited_join, credited_none, found_credited}

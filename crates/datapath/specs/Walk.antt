@@ -1,6 +1,6 @@
 -- The walk of a key over the tables, and the counts that it moves.
 -- Its laws are in proofs/: other proofs use those and open no definition.
-use Rattle.std.specs.Prelude.{◌≡◌, ℕ, zero, suc, ◌+◌, Bool, true, false, cond, ◌&&◌, ◌||◌, List, [], ◌∷◌, length, Some, None, Option, ◌==◌, bit_or, nat_le, nat_lt, slice_index_or, slice_set}
+use Rattle.std.specs.Prelude.{◌≡◌, ℕ, zero, suc, ◌+◌, Bool, true, cond, ◌&&◌, ◌||◌, List, [], ◌∷◌, length, Some, None, Option, ◌==◌, bit_or, nat_le, nat_lt, slice_index_or, slice_set}
 use Rattle.std.specs.List.{AllByRecursion as All}
 use Rattle.flow.specs.Masks.{Bytes36, Agree}
 use Rattle.classifier.specs.declared.rule.Rule.{Rule}

@@ -1,17 +1,15 @@
-use Rattle.std.proofs.Common.{◌≡◌, ℕ, suc, ◌+◌, ◌-◌, ◌<◌, ◌≤◌, List, [], ◌∷◌, ◌++◌, map, length, get_or, take, set, Some, None, vec_items, sym, refl, ap, ◌∙◌, subst, arith, length-set, rules}
+use Rattle.std.proofs.Common.{◌≡◌, ℕ, suc, ◌+◌, ◌-◌, ◌<◌, List, [], ◌∷◌, ◌++◌, map, length, take, set, Some, None, vec_items, sym, refl, ap, ◌∙◌, subst, arith, length-set}
 use lib.Bits.{bit_or}
-use Rattle.std.proofs.ByRecursion.{All-append, All-push}
+use Rattle.std.proofs.ByRecursion.{All-push}
 use Rattle.std.proofs.lemmas.List.{get_or-map, length-map, take_more_set}
 use Rattle.std.specs.List.{AllByRecursion as All}
 use Rattle.flow.specs.Masks.{union}
-use Rattle.classifier.specs.declared.rule.Rule.{Rule}
 use Rattle.classifier.specs.Rules.{found, Adequate}
-use Rattle.datapath.specs.declared.level.Mark.{Mark}
 use Rattle.datapath.specs.Walk.{table_of, mark_of, Tells}
 use Rattle.datapath.specs.Given.{TableGives, Joins}
 use Rattle.datapath.proofs.Givens.{table_gives_at, joins_stop, joins_last, joins_onward, joins_end}
 use Rattle.datapath.proofs.Nexts.{found_next, none_since}
-use Rattle.datapath.proofs.Steps.{Going, Over, begin, stop, last, onward, over}
+use Rattle.datapath.proofs.Steps.{Going, begin, stop, last, onward, over}
 use Rattle.datapath.proofs.tables.Tables.walk.Goals as goal
 
 pub loop-i-init : goal.loop-i-init

@@ -1,7 +1,6 @@
-use Rattle.std.proofs.Common.{◌≡◌, ℕ, ◌+◌, ◌<◌, true, [], map, length, get_or, set, vec_items, sym, refl, ap, ◌∙◌, subst, ap₂, arith, length-set, rules}
+use Rattle.std.proofs.Common.{◌≡◌, ℕ, ◌+◌, ◌<◌, true, [], map, length, get_or, set, vec_items, sym, refl, ap, ◌∙◌, subst, ap₂, arith, length-set}
 use Rattle.std.proofs.lemmas.List.{get_or-map, length-map}
 use Rattle.std.proofs.lemmas.Result.{err_from_is_err_and}
-use Rattle.std.proofs.lemmas.Bool.Decides.{nat_tests}
 use Rattle.classifier.specs.Rules.{new_rule}
 use Rattle.classifier.specs.Tables.{add_refusal, added}
 use Rattle.datapath.specs.Calls.{rule_of, with_rule}
