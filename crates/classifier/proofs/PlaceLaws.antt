@@ -2,7 +2,7 @@
 use Rattle.std.proofs.Common.{◌≡◌, ℕ, zero, suc, ◌<◌, true, false, List, [], ◌∷◌, ◌++◌, length, get_or, take, drop, Some, None, Option, sym, refl, ap, ◌∙◌, subst, arith}
 use Rattle.std.specs.List as holes
 use Rattle.std.specs.Option.{option_map}
-use Rattle.std.specs.List.{AllByRecursion as All}
+use Rattle.std.specs.List.{AllByRecursion}
 use Rattle.std.proofs.lemmas.Bool.{cond-true, cond-false}
 use Rattle.std.proofs.ByRecursion.{All-get_or}
 use Rattle.flow.specs.Masks.{union, empty_mask}
@@ -39,12 +39,12 @@ by_id_out xs p d h o =
     whole (y ∷ ys) zero l = refl
     whole (y ∷ ys) (suc q) l = ap (λ zs. y ∷ zs) (whole ys q (omega arith))
 
-    front : (ys : List Rule) (q : ℕ) → q < length ys → Pairs Other ys → All (Other (get_or ys q d)) (take q ys)
+    front : (ys : List Rule) (q : ℕ) → q < length ys → Pairs Other ys → AllByRecursion (Other (get_or ys q d)) (take q ys)
     front [] q l w = absurd (omega arith)
     front (y ∷ ys) zero l w = tt
     front (y ∷ ys) (suc q) l w = ((λ e. All-get_or (Other y) ys q d (omega arith) w.0 (sym e)), front ys q (omega arith) w.1)
 
-    back : (ys : List Rule) (q : ℕ) → q < length ys → Pairs Other ys → All (Other (get_or ys q d)) (drop (suc q) ys)
+    back : (ys : List Rule) (q : ℕ) → q < length ys → Pairs Other ys → AllByRecursion (Other (get_or ys q d)) (drop (suc q) ys)
     back [] q l w = absurd (omega arith)
     back (y ∷ ys) zero l w = w.0
     back (y ∷ ys) (suc q) l w = back ys q (omega arith) w.1

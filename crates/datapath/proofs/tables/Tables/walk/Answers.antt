@@ -2,7 +2,7 @@ use Rattle.std.proofs.Common.{◌≡◌, ℕ, suc, ◌+◌, ◌-◌, ◌<◌, Li
 use lib.Bits.{bit_or}
 use Rattle.std.proofs.ByRecursion.{All-push}
 use Rattle.std.proofs.lemmas.List.{get_or-map, length-map, take_more_set}
-use Rattle.std.specs.List.{AllByRecursion as All}
+use Rattle.std.specs.List.{AllByRecursion}
 use Rattle.flow.specs.Masks.{union}
 use Rattle.classifier.specs.Rules.{found, Adequate}
 use Rattle.datapath.specs.Walk.{table_of, mark_of, Tells}
@@ -65,7 +65,7 @@ returns-then-rule-eq0 g c =
     let some : found (table_of (map f xs) t) k ≡ Some h = ap (λ rs. found rs k) at ∙ sym c.find-find.ensures.rule ∙ c.in-Some.is in
     let room : i < length c.loop-i.crossed = omega (arith, c.loop-i.invariant.1, c.loop-i-test.true) in
     let push : take (i + 1) (set c.loop-i.crossed i (mark_of t h)) ≡ take i c.loop-i.crossed ++ mark_of t h ∷ [] = take_more_set c.loop-i.crossed i (mark_of t h) room in
-    let low : All (λ x. x.table < 4) (take (i + 1) (set c.loop-i.crossed i (mark_of t h))) = subst (All (λ x. x.table < 4)) (sym push) (All-push (λ x. x.table < 4) (take i c.loop-i.crossed) (mark_of t h) c.loop-i.invariant.2 c.loop-i.invariant.0) in
+    let low : AllByRecursion (λ x. x.table < 4) (take (i + 1) (set c.loop-i.crossed i (mark_of t h))) = subst (AllByRecursion (λ x. x.table < 4)) (sym push) (All-push (λ x. x.table < 4) (take i c.loop-i.crossed) (mark_of t h) c.loop-i.invariant.2 c.loop-i.invariant.0) in
     let G = λ (u : ℕ) (y : List ℕ). TableGives g.C.Classifier.gives xs u k y in
     let own : TableGives g.C.Classifier.gives xs t k m = table_gives_at g.C.Classifier.gives xs t k m c.index.result.now lt c.index.ensures c.find-find.ensures.given in
     let back = λ (w : List ℕ) (j : Joins G (suc (4 - (i + 1))) (map f xs) t k c.loop-i.mask w). c.loop-i.invariant.4 w (subst (λ n. Joins G n (map f xs) t k c.loop-i.mask w) (sym fuel) j) in
@@ -96,7 +96,7 @@ loop-i-preserved g c =
     let some : found (table_of (map f xs) t) k ≡ Some h = ap (λ rs. found rs k) at ∙ sym c.find-find.ensures.rule ∙ c.in-Some.is in
     let room : i < length c.loop-i.crossed = omega (arith, c.loop-i.invariant.1, c.loop-i-test.true) in
     let push : take (i + 1) (set c.loop-i.crossed i (mark_of t h)) ≡ take i c.loop-i.crossed ++ mark_of t h ∷ [] = take_more_set c.loop-i.crossed i (mark_of t h) room in
-    let low : All (λ x. x.table < 4) (take (i + 1) (set c.loop-i.crossed i (mark_of t h))) = subst (All (λ x. x.table < 4)) (sym push) (All-push (λ x. x.table < 4) (take i c.loop-i.crossed) (mark_of t h) c.loop-i.invariant.2 c.loop-i.invariant.0) in
+    let low : AllByRecursion (λ x. x.table < 4) (take (i + 1) (set c.loop-i.crossed i (mark_of t h))) = subst (AllByRecursion (λ x. x.table < 4)) (sym push) (All-push (λ x. x.table < 4) (take i c.loop-i.crossed) (mark_of t h) c.loop-i.invariant.2 c.loop-i.invariant.0) in
     let G = λ (u : ℕ) (y : List ℕ). TableGives g.C.Classifier.gives xs u k y in
     let own : TableGives g.C.Classifier.gives xs t k m = table_gives_at g.C.Classifier.gives xs t k m c.index.result.now lt c.index.ensures c.find-find.ensures.given in
     let back = λ (w : List ℕ) (j : Joins G (suc (4 - (i + 1))) (map f xs) t k c.loop-i.mask w). c.loop-i.invariant.4 w (subst (λ n. Joins G n (map f xs) t k c.loop-i.mask w) (sym fuel) j) in
@@ -124,5 +124,5 @@ returns g c =
       mask = e.mask;
       given = c.loop-i.invariant.4 c.loop-i.mask (subst (λ n. Joins (λ t f. TableGives g.C.Classifier.gives xs t c.args.key.now f) n (map f xs) c.loop-i.table c.args.key.now c.loop-i.mask c.loop-i.mask) (sym fuel) (joins_end _ (map f xs) c.loop-i.table c.args.key.now c.loop-i.mask));
       few = omega arith;
-      places = subst (λ n. All (λ x. x.table < 4) (take n c.loop-i.crossed)) end c.loop-i.invariant.2;
+      places = subst (λ n. AllByRecursion (λ x. x.table < 4) (take n c.loop-i.crossed)) end c.loop-i.invariant.2;
     }
