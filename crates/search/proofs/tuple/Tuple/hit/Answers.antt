@@ -7,13 +7,13 @@ use Rattle.search.proofs.BestLaws.{best_value}
 use Rattle.search.proofs.SearchLaws.{best_indexed, marked_within, seen_element}
 use Rattle.search.proofs.tuple.Tuple.hit.Goals as goal
 
-pub best-of-requires : goal.best-of-requires
-best-of-requires g c =
+pub best_of-requires : goal.best_of-requires
+best_of-requires g c =
     let m = g.E.Element in
     let xs = c.args.self.now.slots.now in
     let bs = c.args.self.now.index.now.buckets in
     let hash = g.H.KeyHash.hash in
-    subst (λ z. Below z (length xs)) (sym c.slots-of.ensures)
+    subst (λ z. Below z (length xs)) (sym c.slots_of.ensures)
     (marked_within hash m.may m.masks m.values c.args.mask.now c.args.key.now xs bs c.requires (hash (masked c.args.mask.now c.args.key.now)))
 
 pub returns : goal.returns
@@ -22,11 +22,11 @@ returns g c =
     let xs = c.args.self.now.slots.now in
     let bs = c.args.self.now.index.now.buckets in
     let p =
-    c.best-of.ensures
-    ∙ ap (λ z. best (λ x. m.level x.1) (marking z (covering m.masks m.values c.args.mask.now c.args.key.now)) (numbered 0 xs)) c.slots-of.ensures
+    c.best_of.ensures
+    ∙ ap (λ z. best (λ x. m.level x.1) (marking z (covering m.masks m.values c.args.mask.now c.args.key.now)) (numbered 0 xs)) c.slots_of.ensures
     ∙ best_indexed g.H.KeyHash.hash m.may m.masks m.values c.args.mask.now c.args.key.now xs bs c.requires m.level in
     record {
       place = p;
-      element = seen_element c.best-of.result ∙ ap (option_map (λ x. x.1)) p
+      element = seen_element c.best_of.result ∙ ap (option_map (λ x. x.1)) p
           ∙ best_value m.level (fitting m.may m.masks m.values c.args.mask.now c.args.key.now) 0 xs;
     }
