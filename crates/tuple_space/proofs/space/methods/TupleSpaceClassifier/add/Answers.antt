@@ -12,23 +12,23 @@ use Rattle.tuple_space.proofs.space.methods.TupleSpaceClassifier.add.Goals as go
 pub came-requires : goal.came-requires
 came-requires c =
     let s = c.args.self.now in
-    let f = few_before s _ c.in-ok-add.ensures.0 in
+    let f = few_before s _ c.in_ok-add.ensures.0 in
     record { once = s.once; room = omega (arith, f, s.masks.arrived.ok.0, s.room) }
 
 pub order-requires : goal.order-requires
 order-requires c =
     let s = c.args.self.now in
-    let f = few_before s _ c.in-ok-add.ensures.0 in
+    let f = few_before s _ c.in_ok-add.ensures.0 in
     record { few = omega (arith, f, c.came.ensures.is.few); room = s.seats }
 
-pub invariant-of-self-2 : goal.invariant-of-self-2
-invariant-of-self-2 c =
+pub invariant_of-self-2 : goal.invariant_of-self-2
+invariant_of-self-2 c =
     let s = c.args.self.now in
     let us = vec_items c.order.new.self.arrived in
     let new = new_rule c.args.id c.args.priority c.args.key.now.mask c.args.key.now.value c.args.ports c.args.next in
     let same = ap vec_items c.order.ensures.kept in
     let came = subst (λ m. Came (vec_items s.masks.arrived) us m c.args.priority) c.mask.ensures (subst (λ ys. Came (vec_items s.masks.arrived) ys c.mask.result.now c.args.priority) (sym same) c.came.ensures.is) in
-    let t = subst (λ rs. TuplesOf rs us) (sym c.in-ok-add.ensures.1) (tuples_came (rules_of s) new (vec_items s.masks.arrived) us (tuples_held s) came) in (
+    let t = subst (λ rs. TuplesOf rs us) (sym c.in_ok-add.ensures.1) (tuples_came (rules_of s) new (vec_items s.masks.arrived) us (tuples_held s) came) in (
       subst (λ v. 64 ≤ vec_capacity v) (sym c.order.ensures.kept) (omega (arith, s.room, c.came.ensures.room)),
       (
         c.order.ensures.room,

@@ -10,7 +10,7 @@ use Rattle.tuple_space.proofs.space.methods.TupleSpaceClassifier.remove.Goals as
 pub went-requires : goal.went-requires
 went-requires c =
     let s = c.args.self.now in
-    record { once = s.once; there = named_listed s c.args.id c.in-ok-rule.rule c.in-ok-rule.ensures.2 }
+    record { once = s.once; there = named_listed s c.args.id c.in_ok-rule.rule c.in_ok-rule.ensures.2 }
 
 pub order-requires : goal.order-requires
 order-requires c =
@@ -18,13 +18,13 @@ order-requires c =
     let f = few_all s in
     record { few = omega (arith, f, c.went.ensures.is.few); room = s.seats }
 
-pub invariant-of-self-2 : goal.invariant-of-self-2
-invariant-of-self-2 c =
+pub invariant_of-self-2 : goal.invariant_of-self-2
+invariant_of-self-2 c =
     let s = c.args.self.now in
     let us = vec_items c.order.new.self.arrived in
     let same = ap vec_items c.order.ensures.kept in
-    let w = subst (Went (vec_items s.masks.arrived) us c.in-ok-rule.rule.mask) (c.rank-left-rank.ensures ∙ ap (λ xs. rank_left xs c.in-ok-rule.rule.mask) c.rules.ensures) (subst (λ ys. Went (vec_items s.masks.arrived) ys c.in-ok-rule.rule.mask c.rank-left-rank.result) (sym same) c.went.ensures.is) in
-    let t = (after_removal s c.args.id c.in-ok-rule.rule (kept c.remove.new.self.store) us c.in-ok-rule.ensures.2 c.in-ok-rule.ensures.1 w).tuples in (
+    let w = subst (Went (vec_items s.masks.arrived) us c.in_ok-rule.rule.mask) (c.rank_left-rank.ensures ∙ ap (λ xs. rank_left xs c.in_ok-rule.rule.mask) c.rules.ensures) (subst (λ ys. Went (vec_items s.masks.arrived) ys c.in_ok-rule.rule.mask c.rank_left-rank.result) (sym same) c.went.ensures.is) in
+    let t = (after_removal s c.args.id c.in_ok-rule.rule (kept c.remove.new.self.store) us c.in_ok-rule.ensures.2 c.in_ok-rule.ensures.1 w).tuples in (
       subst (λ v. 64 ≤ vec_capacity v) (sym c.order.ensures.kept) (omega (arith, s.room, c.went.ensures.room)),
       (
         c.order.ensures.room,
@@ -37,8 +37,8 @@ returns c =
     let s = c.args.self.now in
     let us = vec_items c.order.new.self.arrived in
     let same = ap vec_items c.order.ensures.kept in
-    let w = subst (Went (vec_items s.masks.arrived) us c.in-ok-rule.rule.mask) (c.rank-left-rank.ensures ∙ ap (λ xs. rank_left xs c.in-ok-rule.rule.mask) c.rules.ensures) (subst (λ ys. Went (vec_items s.masks.arrived) ys c.in-ok-rule.rule.mask c.rank-left-rank.result) (sym same) c.went.ensures.is) in
+    let w = subst (Went (vec_items s.masks.arrived) us c.in_ok-rule.rule.mask) (c.rank_left-rank.ensures ∙ ap (λ xs. rank_left xs c.in_ok-rule.rule.mask) c.rules.ensures) (subst (λ ys. Went (vec_items s.masks.arrived) ys c.in_ok-rule.rule.mask c.rank_left-rank.result) (sym same) c.went.ensures.is) in
     record {
-      0 = (c.in-ok-rule.ensures.0, c.in-ok-rule.ensures.1);
-      masks = (after_removal s c.args.id c.in-ok-rule.rule (kept c.remove.new.self.store) us c.in-ok-rule.ensures.2 c.in-ok-rule.ensures.1 w).masks;
+      0 = (c.in_ok-rule.ensures.0, c.in_ok-rule.ensures.1);
+      masks = (after_removal s c.args.id c.in_ok-rule.rule (kept c.remove.new.self.store) us c.in_ok-rule.ensures.2 c.in_ok-rule.ensures.1 w).masks;
     }
