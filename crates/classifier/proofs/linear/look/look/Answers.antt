@@ -7,20 +7,20 @@ use Rattle.classifier.proofs.linear.look.look.Goals as goal
 
 pub loop-rule-init : goal.loop-rule-init
 loop-rule-init c =
-    (search rules, refl, ap (λ m. union m (looked_at c.args.rules.now c.args.key.now)) c.empty-mask-mask.ensures)
+    (search rules, refl, ap (λ m. union m (looked_at c.args.rules.now c.args.key.now)) c.empty_mask-mask.ensures)
 
 pub loop-rule-preserved : goal.loop-rule-preserved
 loop-rule-preserved c = (
   search rules,
-  first_next c.args.rules.now c.loop-rule.rule-index c.args.key.now _ c.loop-rule-test.true c.if-look-at.ensures.matched c.loop-rule.invariant.1,
-  looked_next c.args.rules.now c.loop-rule.rule-index c.args.key.now _ _ _ _ c.loop-rule-test.true c.if-look-at.ensures.matched c.look-at.ensures.added c.loop-rule.invariant.2,
+  first_next c.args.rules.now c.loop-rule.rule-index c.args.key.now _ c.loop-rule-test.true c.if-look_at.ensures.matched c.loop-rule.invariant.1,
+  looked_next c.args.rules.now c.loop-rule.rule-index c.args.key.now _ _ _ _ c.loop-rule-test.true c.if-look_at.ensures.matched c.look_at.ensures.added c.loop-rule.invariant.2,
 )
 
-pub returns-then-look-at : goal.returns-then-look-at
-returns-then-look-at c =
+pub returns-then-look_at : goal.returns-then-look_at
+returns-then-look_at c =
     let k = looked_from c.args.rules.now c.args.key.now _ _ c.requires
-    (first_here c.args.rules.now c.loop-rule.rule-index c.args.key.now _ c.loop-rule-test.true c.if-look-at.ensures.matched c.loop-rule.invariant.1)
-    (looked_here c.args.rules.now c.loop-rule.rule-index c.args.key.now _ _ _ _ c.loop-rule-test.true c.if-look-at.ensures.matched c.look-at.ensures.added c.loop-rule.invariant.2) in
+    (first_here c.args.rules.now c.loop-rule.rule-index c.args.key.now _ c.loop-rule-test.true c.if-look_at.ensures.matched c.loop-rule.invariant.1)
+    (looked_here c.args.rules.now c.loop-rule.rule-index c.args.key.now _ _ _ _ c.loop-rule-test.true c.if-look_at.ensures.matched c.look_at.ensures.added c.loop-rule.invariant.2) in
     record { rule = ap Some c.name.ensures ∙ k.rule; mask = k.mask; exact = k.exact }
 
 pub returns : goal.returns

@@ -7,5 +7,5 @@ returns c =
     record {
       is = search rules;
       standing = search rules;
-      few = subst (λ rs. length rs ≤ 64) (sym c.as-slice.ensures.value) (stored_kept c.args.self.now).few;
+      few = subst (λ rs. length rs ≤ 64) (sym c.as_slice.ensures.value) (stored_kept c.args.self.now).few;
     }

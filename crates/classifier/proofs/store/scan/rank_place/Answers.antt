@@ -8,12 +8,12 @@ use Rattle.classifier.proofs.store.scan.rank_place.Goals as goal
 pub loop-i-preserved : goal.loop-i-preserved
 loop-i-preserved c =
     All-more (λ s. before c.args.new.now s ≡ false) c.args.rules.now c.loop-i.i _ c.loop-i-test.true c.loop-i.invariant
-    (sym c.if-goes-before.ensures)
+    (sym c.if-goes_before.ensures)
 
-pub returns-then-goes-before : goal.returns-then-goes-before
-returns-then-goes-before c =
+pub returns-then-goes_before : goal.returns-then-goes_before
+returns-then-goes_before c =
     let g = grown_from c.args.rules.now _ c.args.new.now c.requires.ok c.requires.sound c.requires.admitted
-    (inserted_ranked c.args.rules.now c.loop-i.i c.args.new.now _ c.loop-i-test.true c.loop-i.invariant (sym c.if-goes-before.ensures)) in
+    (inserted_ranked c.args.rules.now c.loop-i.i c.args.new.now _ c.loop-i-test.true c.loop-i.invariant (sym c.if-goes_before.ensures)) in
     record { within = omega arith; grown = g.rules; stands = g.stands_still }
 
 pub returns : goal.returns

@@ -4,8 +4,8 @@ use Rattle.search.specs.Sums.{byte_sum}
 use Rattle.search.proofs.IndexLaws.{indexed_put}
 use Rattle.search.proofs.tests.shelf.Shelf.put.Goals as goal
 
-pub invariant-of-self : goal.invariant-of-self
-invariant-of-self c =
+pub invariant_of-self : goal.invariant_of-self
+invariant_of-self c =
     let s = c.args.self.now in
     let long : length s.slots ≡ 4 = search rules in
-    (indexed_put (λ e. e.live) (home byte_sum (λ e. e.mask) (λ e. e.value)) s.slots s.index.buckets c.put.new.self.buckets c.args.slot _ _ (omega (arith, long)) s.kept (omega arith) c.if-self-slot.false refl c.put.ensures, tt)
+    record { kept = indexed_put (λ e. e.live) (home byte_sum (λ e. e.mask) (λ e. e.value)) s.slots s.index.buckets c.put.new.self.buckets c.args.slot _ _ (omega (arith, long)) s.kept (omega arith) c.if-self-slot.false refl c.put.ensures }
