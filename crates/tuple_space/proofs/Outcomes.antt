@@ -1,14 +1,14 @@
 -- A visit in the order of falling rank finds the best rule of the table, and its mask tells enough.
-use Rattle.std.proofs.Common.{◌≡◌, ℕ, ◌<◌, ◌≤◌, Bool, true, false, cond, ◌||◌, ltb, ◌⊎◌, List, [], ◌∷◌, map, length, Some, None, filter, Option, sym, refl, ap, ◌∙◌, subst, ap₂, inl, inr, ⊎_elim, arith}
+use Rattle.std.proofs.Common.{◌≡◌, ℕ, ◌≤◌, true, false, cond, ltb, ◌⊎◌, List, [], ◌∷◌, length, Some, None, Option, sym, refl, ap, ◌∙◌, subst, ap₂, inl, inr, ⊎_elim, arith}
 use Rattle.std.specs.Option.{option_map}
 use Rattle.std.specs.List.{ContainsAt as Has, AllByRecursion as All}
 use Rattle.std.specs.Str.{bytes_eq}
-use Rattle.std.proofs.lemmas.Bool.{cond_both, cond-true, cond-false, cases_Bool, both_ways, ltb-true, ltb-false, or_from, or_parts, or_cases, true≢false}
-use Rattle.std.proofs.ByRecursion.{All-weaker, all-has, all_kept_by, kept_by_passes}
+use Rattle.std.proofs.lemmas.Bool.{cond_both, cond-true, cond-false, cases_Bool, both_ways, ltb-false, or_from, or_cases, true≢false}
+use Rattle.std.proofs.ByRecursion.{All-weaker, kept_by_passes}
 use Rattle.std.proofs.lemmas.Slice.Eq.{bytes_eq-Decides}
-use Rattle.flow.specs.Masks.{Agree, Within, union, empty_mask}
+use Rattle.flow.specs.Masks.{Agree, Within, union}
 use Rattle.flow.proofs.MaskLaws.{agree_left, agree_right, within_left, within_right, within_trans, within_union, length_union}
-use Rattle.flow.proofs.WholeLaws.{within_empty, empty_bytes, empty_union}
+use Rattle.flow.proofs.WholeLaws.{within_empty, empty_bytes}
 use Rattle.classifier.specs.declared.rule.Rule.{Rule}
 use Rattle.classifier.specs.Rules.{best, matches, higher, bits_of, SoundRule}
 use Rattle.classifier.specs.Inserts.{Pairs}

@@ -1,14 +1,13 @@
 -- The tuples of some rules: what stays true of them as masks come and go and ranks change.
-use Rattle.std.proofs.Common.{◌≡◌, ℕ, zero, suc, ◌<◌, ◌≤◌, Bool, true, false, cond, not, ◌&&◌, ◌||◌, eqb, ltb, ◌⊎◌, List, [], ◌∷◌, ◌++◌, map, length, get_or, set, filter, sym, refl, ap, ◌∙◌, subst, ap₂, inl, inr, ⊎_elim, arith}
+use Rattle.std.proofs.Common.{◌≡◌, ℕ, zero, suc, ◌<◌, Bool, true, false, cond, not, ◌&&◌, ◌||◌, ◌⊎◌, List, [], ◌∷◌, ◌++◌, length, get_or, set, filter, sym, refl, ap, ◌∙◌, subst, ap₂, inl, inr, ⊎_elim, arith}
 use Rattle.std.specs.List as holes
-use Rattle.std.specs.List.{ContainsAt as Has, AllByRecursion as All}
+use Rattle.std.specs.List.{AllByRecursion as All}
 use Rattle.std.specs.Str.{bytes_eq}
-use Rattle.std.proofs.lemmas.Bool.{cond_both, cond-true, cond-false, cases_Bool, both_ways, and_parts, and_from, and_left, and_right, or_left, or_right, or_cases, or_parts, or_from, true≢false, not_from_true, not_from_false, not-true}
-use Rattle.std.proofs.ByRecursion.{All-weaker, all-has}
+use Rattle.std.proofs.lemmas.Bool.{cond-true, cond-false, cases_Bool, both_ways, and_parts, and_from, and_right, or_left, or_right, or_parts, or_from, not_from_true, not_from_false, not-true}
+use Rattle.std.proofs.ByRecursion.{All-weaker}
 use Rattle.std.proofs.lemmas.Slice.Eq.{bytes_eq-Decides}
-use Rattle.classifier.specs.declared.rule.Rule.{Rule}
 use Rattle.tuple_space.specs.declared.ranked_mask.RankedMask.{RankedMask}
-use Rattle.tuple_space.specs.Tuples.{worn, larger, rank_of, masks_of, tuple_of, listed, rank_in, distinct, TuplesOf}
+use Rattle.tuple_space.specs.Tuples.{masks_of, listed, rank_in, distinct}
 use Rattle.tuple_space.proofs.Outcomes.{same_sym}
 use Rattle.tuple_space.proofs.RuleLaws.{same_refl}
 

@@ -1,18 +1,14 @@
 -- What a visit of the tuples finds: the best rule of the table.
-use Rattle.std.proofs.Common.{◌≡◌, ℕ, ◌<◌, ◌≤◌, Bool, true, false, cond, ◌||◌, ltb, ◌⊎◌, List, [], ◌∷◌, map, length, Some, None, filter, Option, sym, refl, ap, ◌∙◌, subst, ap₂, inl, inr, ⊎_elim, arith}
-use Rattle.std.specs.Option.{option_map}
+use Rattle.std.proofs.Common.{◌≡◌, ℕ, ◌<◌, ◌≤◌, Bool, true, false, ltb, ◌⊎◌, List, [], ◌∷◌, Some, None, filter, Option, sym, refl, ap, subst, ⊎_elim, arith}
 use Rattle.std.specs.List.{ContainsAt as Has, AllByRecursion as All}
 use Rattle.std.specs.Str.{bytes_eq}
-use Rattle.std.proofs.lemmas.Bool.{cond_both, cond-true, cond-false, cases_Bool, both_ways, ltb-true, ltb-false, or_from, or_parts, or_cases}
-use Rattle.std.proofs.ByRecursion.{All-weaker, all-has, all_has_itself, all_kept_by, kept_by_passes, has_append_right}
-use Rattle.std.proofs.lemmas.Slice.Eq.{bytes_eq-Decides}
+use Rattle.std.proofs.lemmas.Bool.{cond_both, both_ways, ltb-true, ltb-false}
+use Rattle.std.proofs.ByRecursion.{All-weaker, all-has, all_has_itself, all_kept_by, has_append_right}
 use Rattle.classifier.specs.declared.rule.Rule.{Rule}
 use Rattle.classifier.specs.Rules.{best, matches}
 use Rattle.classifier.specs.Inserts.{Pairs, pairs_kept_by}
 use Rattle.classifier.specs.BestLaws.{Untied}
 use Rattle.classifier.specs.LawsLemmas.{Said, said_best}
-use Rattle.tuple_space.specs.declared.ranked_mask.RankedMask.{RankedMask}
-use Rattle.tuple_space.specs.Tuples.{listed}
 use Rattle.tuple_space.specs.Visits.{having, better}
 
 -- of the rules of which P holds, this is the best for the key

@@ -1,4 +1,4 @@
-use Rattle.std.proofs.Common.{◌≡◌, ◌<◌, length, get_or, None, vec_items, sym, refl, ap, ◌∙◌, subst, arith, rules}
+use Rattle.std.proofs.Common.{◌≡◌, ◌<◌, length, get_or, None, vec_items, sym, subst, arith}
 use Rattle.tuple_space.specs.declared.ranked_mask.RankedMask.{RankedMask}
 use Rattle.tuple_space.specs.Changes.{Went}
 use Rattle.tuple_space.proofs.ChangeLaws.{went_at, went_none}

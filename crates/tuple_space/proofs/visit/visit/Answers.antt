@@ -1,4 +1,4 @@
-use Rattle.std.proofs.Common.{None, sym, refl, ap, ◌∙◌, rules}
+use Rattle.std.proofs.Common.{None, refl, ap, ◌∙◌, rules}
 use Rattle.std.specs.Option.{option_map}
 use Rattle.flow.specs.Masks.{union}
 use Rattle.classifier.specs.Kept.{standing_rules}

@@ -5,4 +5,4 @@ use Rattle.tuple_space.proofs.indexed.IndexedStore.credit.Goals as goal
 pub invariant_of-self : goal.invariant_of-self
 invariant_of-self c =
     let s = c.args.self.now in
-    (indexed_credited (kept s.store) (kept c.credit.new.self) s.index.buckets c.args.id c.args.n c.credit.ensures.kept s.indexed, tt)
+    record { indexed = indexed_credited (kept s.store) (kept c.credit.new.self) s.index.buckets c.args.id c.args.n c.credit.ensures.kept s.indexed }
