@@ -1,22 +1,22 @@
 -- The facts about a place of a store, from the rule that stands there.
-use Rattle.std.proofs.Common.{◌≡◌, ℕ, zero, suc, ◌+◌, ◌<◌, Bool, true, false, cond, List, [], ◌∷◌, ◌++◌, length, get_or, take, drop, set, Some, None, Option, sym, refl, ap, ◌∙◌, subst, arith}
+use Rattle.std.proofs.Common.{◌≡◌, ℕ, zero, suc, ◌<◌, true, false, List, [], ◌∷◌, ◌++◌, length, get_or, take, drop, Some, None, Option, sym, refl, ap, ◌∙◌, subst, arith}
 use Rattle.std.specs.List as holes
 use Rattle.std.specs.Option.{option_map}
-use Rattle.std.specs.List.{AllByRecursion as All}
+use Rattle.std.specs.List.{AllByRecursion}
 use Rattle.std.proofs.lemmas.Bool.{cond-true, cond-false}
 use Rattle.std.proofs.ByRecursion.{All-get_or}
 use Rattle.flow.specs.Masks.{union, empty_mask}
 use Rattle.flow.proofs.WholeLaws.{empty_union}
 use Rattle.classifier.specs.declared.rule.Rule.{Rule}
-use Rattle.classifier.specs.Rules.{SoundRule, found, named, FindMask}
-use Rattle.classifier.specs.Tables.{stands, clash, add_refusal, added, removed, raised, credited, count_of, missing_refusal, Refusal}
+use Rattle.classifier.specs.Rules.{found, named, FindMask}
+use Rattle.classifier.specs.Tables.{stands, clash, add_refusal, added, removed, credited, missing_refusal, Refusal}
 use Rattle.classifier.specs.Stores.{by_id, ranked, standing, sound_test, StandsAt, first_match, looked_at, linear_mask}
 use Rattle.classifier.specs.Places.{Absent, Placed, admission}
 use Rattle.classifier.specs.Inserts.{Pairs}
-use Rattle.classifier.specs.ByIdLaws.{Other, stands_by_id, length_by_id, by_id_insert, by_id_remove, by_id_credit, credited_at, credited_missing, at_id_by_id, at_id_place}
+use Rattle.classifier.specs.ByIdLaws.{Other, stands_by_id, by_id_remove, by_id_credit, credited_at, credited_missing, at_id_by_id, at_id_place}
 use Rattle.classifier.specs.RankLaws.{by_id_ranked, found_by_id, looked_long, linear_mask_by_id, find_mask_looked}
-use Rattle.classifier.specs.LawsLemmas.{Admitted, admitted}
-use Rattle.classifier.specs.StandingLaws.{Stored, stored_from_test, test_from_stored, sound_from_test, stored_ranked, stored_removed, stored_credited, add_refusal_stored}
+use Rattle.classifier.specs.LawsLemmas.{admitted}
+use Rattle.classifier.specs.StandingLaws.{stored_from_test, test_from_stored, sound_from_test, stored_ranked, stored_removed, stored_credited, add_refusal_stored}
 
 pub absent_from : (xs : List Rule) (i : ℕ) → stands xs i ≡ false → Absent xs i
 unfolding missing_refusal
@@ -39,12 +39,12 @@ by_id_out xs p d h o =
     whole (y ∷ ys) zero l = refl
     whole (y ∷ ys) (suc q) l = ap (λ zs. y ∷ zs) (whole ys q (omega arith))
 
-    front : (ys : List Rule) (q : ℕ) → q < length ys → Pairs Other ys → All (Other (get_or ys q d)) (take q ys)
+    front : (ys : List Rule) (q : ℕ) → q < length ys → Pairs Other ys → AllByRecursion (Other (get_or ys q d)) (take q ys)
     front [] q l w = absurd (omega arith)
     front (y ∷ ys) zero l w = tt
     front (y ∷ ys) (suc q) l w = ((λ e. All-get_or (Other y) ys q d (omega arith) w.0 (sym e)), front ys q (omega arith) w.1)
 
-    back : (ys : List Rule) (q : ℕ) → q < length ys → Pairs Other ys → All (Other (get_or ys q d)) (drop (suc q) ys)
+    back : (ys : List Rule) (q : ℕ) → q < length ys → Pairs Other ys → AllByRecursion (Other (get_or ys q d)) (drop (suc q) ys)
     back [] q l w = absurd (omega arith)
     back (y ∷ ys) zero l w = w.0
     back (y ∷ ys) (suc q) l w = back ys q (omega arith) w.1

@@ -1,8 +1,8 @@
 -- The steps of a search through a list of rules: what is left of it gives the answer.
-use Rattle.std.proofs.Common.{◌≡◌, ℕ, ◌+◌, ◌<◌, ◌≤◌, Bool, true, false, cond, ◌&&◌, ◌||◌, eqb, List, [], ◌∷◌, length, get_or, drop, Some, None, Option, sym, refl, ap, ◌∙◌, subst}
+use Rattle.std.proofs.Common.{◌≡◌, ℕ, ◌+◌, ◌<◌, ◌≤◌, Bool, true, false, ◌&&◌, ◌||◌, eqb, List, length, get_or, drop, Some, None, sym, ap, ◌∙◌}
 use Rattle.std.proofs.lemmas.List.{get_or_default, at_drop_more, at_drop_all}
 use Rattle.std.proofs.lemmas.Bool.{cond-true, cond-false, ne_eqb, eq-eqb, or_left}
-use Rattle.flow.specs.Masks.{union, empty_mask}
+use Rattle.flow.specs.Masks.{union}
 use Rattle.flow.proofs.MaskLaws.{union_assoc}
 use Rattle.flow.proofs.WholeLaws.{union_empty}
 use Rattle.classifier.specs.declared.rule.Rule.{Rule}

@@ -1,12 +1,12 @@
 -- The best rule does not depend on the order of the rules; in falling priority it is the first that matches.
-use Rattle.std.specs.Prelude.{◌≡◌, ℕ, zero, suc, ◌<◌, ◌≤◌, Bool, true, false, cond, ◌⊎◌, List, [], ◌∷◌, Some, None, Option, ◌≢◌, nat_lt, refl}
+use Rattle.std.specs.Prelude.{◌≡◌, ℕ, ◌<◌, ◌≤◌, Bool, true, false, cond, ◌⊎◌, List, [], ◌∷◌, Some, None, Option, ◌≢◌, nat_lt, refl}
 use Rattle.std.proofs.Common.{sym, ap, ◌∙◌, inl, inr, ⊎_elim, arith}
-use Rattle.std.specs.List.{AllByRecursion as All}
-use Rattle.std.proofs.lemmas.Bool.{cond_both, cond-true, cond-false, cases_Bool, cases_order, lt-ltb, le-ltb, ltb-true, ltb-false, both_ways, true≢false}
+use Rattle.std.specs.List.{AllByRecursion}
+use Rattle.std.proofs.lemmas.Bool.{cond_both, cond-true, cond-false, cases_Bool, cases_order, lt-ltb, le-ltb, both_ways}
 use Rattle.std.proofs.ByRecursion.{All-weaker}
 use Rattle.std.specs.Str.{bytes_eq}
-use Rattle.flow.specs.Masks.{Agree, covered, overlapping}
-use Rattle.flow.proofs.MaskLaws.{covered_decides, covers_alike}
+use Rattle.flow.specs.Masks.{Agree, covered}
+use Rattle.flow.proofs.MaskLaws.{covered_decides}
 use Rattle.flow.proofs.OverlapLaws.{overlapping_from_both, overlapping_sym}
 use Rattle.classifier.specs.declared.rule.Rule.{Rule}
 use Rattle.classifier.specs.Rules.{matches, clashing, higher, best, Apart}
@@ -79,7 +79,7 @@ in_turn r s o false true h = refl
 in_turn r s o false false h = refl
 
 -- one rule more, where no other that matches the key has its priority
-pub best_added_at : (rs : List Rule) (r : Rule) (k : List ℕ) → All (λ s. matches r k ≡ true → matches s k ≡ true → r.priority ≢ s.priority) rs → best (added rs r) k ≡ cond (matches r k) (higher r (best rs k)) (best rs k)
+pub best_added_at : (rs : List Rule) (r : Rule) (k : List ℕ) → AllByRecursion (λ s. matches r k ≡ true → matches s k ≡ true → r.priority ≢ s.priority) rs → best (added rs r) k ≡ cond (matches r k) (higher r (best rs k)) (best rs k)
 unfolding best added
 best_added_at [] r k h = refl
 best_added_at (s ∷ rs) r k h =
@@ -88,7 +88,7 @@ best_added_at (s ∷ rs) r k h =
     ∙ in_turn r s (best rs k) (matches s k) (matches r k) (λ p q. higher_comm s r (best rs k) (λ e. h.0 q p (sym e))))
 
 -- one rule more, that ties with none
-pub best_added : (rs : List Rule) (r : Rule) (k : List ℕ) → All (Untied r) rs → best (added rs r) k ≡ cond (matches r k) (higher r (best rs k)) (best rs k)
+pub best_added : (rs : List Rule) (r : Rule) (k : List ℕ) → AllByRecursion (Untied r) rs → best (added rs r) k ≡ cond (matches r k) (higher r (best rs k)) (best rs k)
 best_added rs r k h =
     best_added_at rs r k
     (All-weaker (Untied r) (λ s. matches r k ≡ true → matches s k ≡ true → r.priority ≢ s.priority) (λ s u p q. priorities_differ r s k u p q) rs h)
@@ -108,7 +108,7 @@ higher_under : (r : Rule) (o : Option Rule) → Under r.priority o → higher r 
 higher_under r None h = refl
 higher_under r (Some s) h = higher_of r s h
 
-pub best_under : (p : ℕ) (rs : List Rule) (k : List ℕ) → All (λ s. matches s k ≡ true → s.priority < p) rs → Under p (best rs k)
+pub best_under : (p : ℕ) (rs : List Rule) (k : List ℕ) → AllByRecursion (λ s. matches s k ≡ true → s.priority < p) rs → Under p (best rs k)
 unfolding best
 best_under p [] k h = tt
 best_under p (s ∷ rs) k h =
@@ -132,7 +132,7 @@ best_is_first (x ∷ xs) k h f =
     ∙ sym (cond-false (matches x k) (Some x) (first_match xs k) m))
     (cases_Bool (matches x k))
   where
-    strictly : matches x k ≡ true → (ys : List Rule) → All (Untied x) ys → All (λ s. s.priority ≤ x.priority) ys → All (λ s. matches s k ≡ true → s.priority < x.priority) ys
+    strictly : matches x k ≡ true → (ys : List Rule) → AllByRecursion (Untied x) ys → AllByRecursion (λ s. s.priority ≤ x.priority) ys → AllByRecursion (λ s. matches s k ≡ true → s.priority < x.priority) ys
     strictly m [] u l = tt
     strictly m (y ∷ ys) u l = (
       (λ n. ⊎_elim (λ e. absurd (priorities_differ x y k u.0 m n e)) (⊎_elim (λ b. absurd (below b l.0)) (λ b. b)) (cases_order x.priority y.priority)),

@@ -1,7 +1,7 @@
 -- A store of rules by rising id: what its order does not matter to.
-use Rattle.std.specs.Prelude.{◌≡◌, ℕ, zero, suc, ◌+◌, ◌<◌, ◌≤◌, Bool, true, false, cond, not, ◌&&◌, ◌||◌, ◌⊎◌, List, [], ◌∷◌, ◌++◌, map, length, get_or, Some, None, filter, Option, ◌==◌, ◌≢◌, nat_lt, slice_index_or, slice_set, refl}
+use Rattle.std.specs.Prelude.{◌≡◌, ℕ, zero, suc, ◌<◌, ◌≤◌, Bool, true, false, cond, not, ◌&&◌, ◌||◌, ◌⊎◌, List, [], ◌∷◌, ◌++◌, map, length, get_or, Some, None, Option, ◌==◌, ◌≢◌, nat_lt, slice_index_or, slice_set, refl}
 use Rattle.std.proofs.Common.{sym, ap, ap₂, subst, ◌∙◌, inl, inr, ⊎_elim, arith}
-use Rattle.std.specs.List.{AllByRecursion as All}
+use Rattle.std.specs.List.{AllByRecursion}
 use Rattle.std.proofs.lemmas.Bool.{cases_order, cond_both, cond-true, cond-false, lt-ltb, le-ltb, ltb-true, ltb-false, eqb-true, eqb-false, eq-eqb, ne_eqb, or_parts, or_from, cases_Bool, both_ways}
 use Rattle.std.proofs.ByRecursion.{All-weaker, All-get_or}
 use Rattle.flow.specs.Masks.{union}
@@ -42,10 +42,10 @@ added_comm rs a b ne =
 pub length_added : (rs : List Rule) (r : Rule) → length (added rs r) ≡ suc (length rs)
 length_added rs r = ap length (added_put rs r) ∙ length_put id_lt rs r
 
-pub all_added : (P : Rule → Type 0) (rs : List Rule) (r : Rule) → All P rs → P r → All P (added rs r)
+pub all_added : (P : Rule → Type 0) (rs : List Rule) (r : Rule) → AllByRecursion P rs → P r → AllByRecursion P (added rs r)
 all_added P rs r h p = rw (added_put rs r) (all_put P id_lt rs r h p)
 
-pub pairs_added : (R : Rule → Rule → Type 0) → ((x y : Rule) → R x y → R y x) → (rs : List Rule) (r : Rule) → All (R r) rs → Pairs R rs → Pairs R (added rs r)
+pub pairs_added : (R : Rule → Rule → Type 0) → ((x y : Rule) → R x y → R y x) → (rs : List Rule) (r : Rule) → AllByRecursion (R r) rs → Pairs R rs → Pairs R (added rs r)
 pairs_added R turn rs r h q = rw (added_put rs r) (pairs_put R turn id_lt rs r h q)
 
 -- a fact about the added list, from the two ways in which it goes in
@@ -73,7 +73,7 @@ untested : (rs : List Rule) → Pairs (λ r s. id_lt r s ≡ true) rs → Pairs 
 untested [] h = tt
 untested (r ∷ rs) h = (All-weaker (λ s. id_lt r s ≡ true) (λ s. r.id < s.id) (λ s e. ltb-true r.id s.id e) rs h.0, untested rs h.1)
 
-pub rising_added : (rs : List Rule) (r : Rule) → All (Other r) rs → Rising rs → Rising (added rs r)
+pub rising_added : (rs : List Rule) (r : Rule) → AllByRecursion (Other r) rs → Rising rs → Rising (added rs r)
 rising_added rs r h q =
     rising_from_pairs (added rs r)
     (untested (added rs r)
@@ -104,14 +104,14 @@ stands_by_id [] i = refl
 stands_by_id (x ∷ xs) i = stands_added (by_id xs) x i ∙ ap (λ b. (x.id == i) || b) (stands_by_id xs i)
 
 -- no rule of this id
-pub fresh_from_stands : (rs : List Rule) (r : Rule) → stands rs r.id ≡ false → All (Other r) rs
+pub fresh_from_stands : (rs : List Rule) (r : Rule) → stands rs r.id ≡ false → AllByRecursion (Other r) rs
 unfolding stands
 fresh_from_stands [] r h = tt
 fresh_from_stands (s ∷ rs) r h =
     let p = or_parts (s.id == r.id) (stands rs r.id) h in
     ((λ e. eqb-false s.id r.id p.0 (sym e)), fresh_from_stands rs r p.1)
 
-pub stands_from_fresh : (rs : List Rule) (r : Rule) → All (Other r) rs → stands rs r.id ≡ false
+pub stands_from_fresh : (rs : List Rule) (r : Rule) → AllByRecursion (Other r) rs → stands rs r.id ≡ false
 unfolding stands
 stands_from_fresh [] r h = refl
 stands_from_fresh (s ∷ rs) r h =
@@ -124,7 +124,7 @@ unfolding by_id
 length_by_id [] = refl
 length_by_id (x ∷ xs) = length_added (by_id xs) x ∙ ap suc (length_by_id xs)
 
-pub all_by_id : (P : Rule → Type 0) (xs : List Rule) → All P xs → All P (by_id xs)
+pub all_by_id : (P : Rule → Type 0) (xs : List Rule) → AllByRecursion P xs → AllByRecursion P (by_id xs)
 unfolding by_id
 all_by_id P [] h = tt
 all_by_id P (x ∷ xs) h = all_added P (by_id xs) x (all_by_id P xs h.1) h.0
@@ -140,7 +140,7 @@ rising_by_id [] h = tt
 rising_by_id (x ∷ xs) h = rising_added (by_id xs) x (all_by_id (Other x) xs h.0) (rising_by_id xs h.1)
 
 -- one more rule anywhere
-pub by_id_insert : (xs ys : List Rule) (r : Rule) → All (Other r) xs → by_id (xs ++ r ∷ ys) ≡ added (by_id (xs ++ ys)) r
+pub by_id_insert : (xs ys : List Rule) (r : Rule) → AllByRecursion (Other r) xs → by_id (xs ++ r ∷ ys) ≡ added (by_id (xs ++ ys)) r
 unfolding by_id
 by_id_insert [] ys r h = refl
 by_id_insert (x ∷ xs) ys r h =
@@ -165,12 +165,12 @@ removed_added (s ∷ rs) r h =
     (λ _. ap (λ b. cond (not b) (s ∷ removed (added rs r) r.id) (removed (added rs r) r.id)) p.0 ∙ ap (λ ys. s ∷ ys) (removed_added rs r p.1))
 
 -- a rule out, from anywhere
-pub by_id_remove : (xs ys : List Rule) (r : Rule) → All (Other r) xs → All (Other r) ys → by_id (xs ++ ys) ≡ removed (by_id (xs ++ r ∷ ys)) r.id
+pub by_id_remove : (xs ys : List Rule) (r : Rule) → AllByRecursion (Other r) xs → AllByRecursion (Other r) ys → by_id (xs ++ ys) ≡ removed (by_id (xs ++ r ∷ ys)) r.id
 by_id_remove xs ys r h k =
     sym (ap (λ zs. removed zs r.id) (by_id_insert xs ys r h)
     ∙ removed_added (by_id (xs ++ ys)) r (stands_by_id (xs ++ ys) r.id ∙ stands_from_fresh (xs ++ ys) r (joined xs h)))
   where
-    joined : (zs : List Rule) → All (Other r) zs → All (Other r) (zs ++ ys)
+    joined : (zs : List Rule) → AllByRecursion (Other r) zs → AllByRecursion (Other r) (zs ++ ys)
     joined [] h = k
     joined (z ∷ zs) h = (h.0, joined zs h.1)
 
@@ -292,7 +292,7 @@ least_clash [] new = None
 least_clash (r ∷ rs) new = lesser (hit r new) (least_clash rs new)
 
 -- an id below all those of the list
-below_all : (rs : List Rule) (new : Rule) (i : ℕ) → All (λ s. i < s.id) rs → lesser (Some i) (clash rs new) ≡ Some i
+below_all : (rs : List Rule) (new : Rule) (i : ℕ) → AllByRecursion (λ s. i < s.id) rs → lesser (Some i) (clash rs new) ≡ Some i
 unfolding clash
 below_all [] new i h = refl
 below_all (s ∷ rs) new i h =
@@ -336,7 +336,7 @@ clash_by_id (x ∷ xs) new h =
     clash_added (by_id xs) x new (rising_by_id xs h.1) ∙ ap (lesser (hit x new)) (clash_by_id xs new h.1)
 
 -- no rule of the list clashes
-pub apart_from_clash : (rs : List Rule) (new : Rule) → clash rs new ≡ None → All (λ s. s.priority ≡ new.priority → clashing s new ≡ false) rs
+pub apart_from_clash : (rs : List Rule) (new : Rule) → clash rs new ≡ None → AllByRecursion (λ s. s.priority ≡ new.priority → clashing s new ≡ false) rs
 unfolding clash
 apart_from_clash [] new h = tt
 apart_from_clash (s ∷ rs) new h =

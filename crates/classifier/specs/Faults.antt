@@ -1,5 +1,4 @@
 -- The numbers and details of the refusals of a classifier.
-use Rattle.std.specs.Prelude.{ℕ}
 use Rattle.classifier.specs.declared.fault.ClassifierFault.{ClassifierFault}
 use Rattle.classifier.specs.declared.fault.ClassifierFault.TheVariants.{Stands, Full, Overlaps, Missing}
 use Rattle.classifier.specs.Tables.{Refusal}

@@ -1,17 +1,17 @@
 -- The laws of rule lists that the crates above use: what keeps a list lawful, and that the best rule decides.
-use Rattle.std.specs.Prelude.{◌≡◌, ℕ, zero, suc, ◌+◌, ◌%◌, ◌^◌, ◌<◌, ◌≤◌, Bool, true, false, cond, not, ◌⊎◌, List, [], ◌∷◌, map, length, Some, None, filter, Option, ◌==◌, nat_le, nat_lt, refl}
-use Rattle.std.proofs.Common.{sym, ap, subst, ◌∙◌, inl, inr, ⊎_elim, arith}
-use Rattle.std.specs.List.{ContainsAt as Has, AllByRecursion as All}
+use Rattle.std.specs.Prelude.{◌≡◌, ℕ, ◌<◌, ◌≤◌, Bool, true, false, cond, not, ◌⊎◌, List, [], ◌∷◌, length, Some, None, filter, Option, ◌==◌, nat_le, nat_lt, refl}
+use Rattle.std.proofs.Common.{sym, subst, inl, inr, ⊎_elim, arith}
+use Rattle.std.specs.List.{ContainsAt, AllByRecursion}
 use Rattle.std.proofs.lemmas.List.{length-map}
-use Rattle.std.proofs.lemmas.Bool.{cond_both, cases_Bool, cases_order, ltb-true, ltb-false, leb-false, both_ways}
+use Rattle.std.proofs.lemmas.Bool.{cond_both, cases_order, ltb-true, ltb-false, leb-false, both_ways}
 use Rattle.std.proofs.ByRecursion.{All-weaker, all-has, all_kept_by, has_append_right}
 use Rattle.classifier.specs.declared.rule.Rule.{Rule}
-use Rattle.classifier.specs.Rules.{matches, clashing, higher, best, SoundRule, Rising, Apart, Lawful}
-use Rattle.classifier.specs.Tables.{Refusal, stands, clash, clash_refusal, add_refusal, added, removed, plus, raised, credited}
-use Rattle.classifier.specs.Laws.{DecidesKey, Decided, BestDecides}
-use Rattle.classifier.specs.Inserts.{Pairs, all_over, pairs_over, pairs_kept_by, length_kept_by, pairs_weaker}
-use Rattle.classifier.specs.ByIdLaws.{Other, credit_one, length_added, all_added, pairs_added, rising_added, rising_from_pairs, pairs_from_rising, fresh_from_stands, apart_from_clash}
-use Rattle.classifier.specs.BestLaws.{Untied, clashing_sym, untied_sym, apart_from_pairs, pairs_from_apart, priorities_differ}
+use Rattle.classifier.specs.Rules.{matches, clashing, higher, best, SoundRule, Lawful}
+use Rattle.classifier.specs.Tables.{Refusal, stands, clash, clash_refusal, add_refusal, added, removed, raised, credited}
+use Rattle.classifier.specs.Laws.{Decided, BestDecides}
+use Rattle.classifier.specs.Inserts.{Pairs, all_over, pairs_over, pairs_kept_by, length_kept_by}
+use Rattle.classifier.specs.ByIdLaws.{credit_one, length_added, all_added, pairs_added, rising_added, rising_from_pairs, pairs_from_rising, fresh_from_stands, apart_from_clash}
+use Rattle.classifier.specs.BestLaws.{Untied, untied_sym, apart_from_pairs, pairs_from_apart, priorities_differ}
 
 -- an add that is not refused ---------------------------------------------------------------------------------
 
@@ -37,11 +37,11 @@ admitted rs new h =
     record { fresh = p.0; room = leb-false 64 (length rs) q.0; alone = no_clash (clash rs new) q.1 }
 
 -- the new rule does not tie with those that stand
-pub untied_admitted : (rs : List Rule) (new : Rule) → clash rs new ≡ None → All (Untied new) rs
+pub untied_admitted : (rs : List Rule) (new : Rule) → clash rs new ≡ None → AllByRecursion (Untied new) rs
 untied_admitted rs new h =
     All-weaker (λ s. s.priority ≡ new.priority → clashing s new ≡ false) (Untied new) (λ s u. untied_sym s new u) rs (apart_from_clash rs new h)
 
-pairs_added_untied : (rs : List Rule) (new : Rule) → All (Untied new) rs → Pairs Untied rs → Pairs Untied (added rs new)
+pairs_added_untied : (rs : List Rule) (new : Rule) → AllByRecursion (Untied new) rs → Pairs Untied rs → Pairs Untied (added rs new)
 pairs_added_untied rs new h q = pairs_added Untied untied_sym rs new h q
 
 pub lawful_added : (rs : List Rule) (new : Rule) → Lawful rs → SoundRule new → add_refusal rs new ≡ None → Lawful (added rs new)
@@ -75,12 +75,12 @@ raised_sound : (n : ℕ) (r : Rule) → SoundRule r → SoundRule (raised n r)
 raised_sound n r s =
     record { mask_bytes = s.mask_bytes; value_bytes = s.value_bytes; masked_key = s.masked_key; id_fits = s.id_fits; count_fits = omega arith }
 
-pub all_credited : (P : Rule → Type 0) (i n : ℕ) → ((r : Rule) → P r → P (raised n r)) → (rs : List Rule) → All P rs → All P (credited rs i n)
+pub all_credited : (P : Rule → Type 0) (i n : ℕ) → ((r : Rule) → P r → P (raised n r)) → (rs : List Rule) → AllByRecursion P rs → AllByRecursion P (credited rs i n)
 unfolding credited
 all_credited P i n up rs h =
     all_over P P (credit_one i n) (λ r p. cond_both (r.id == i) (raised n r) r P (λ _. up r p) (λ _. p)) rs h
 
-pub sound_credited : (rs : List Rule) (i n : ℕ) → All SoundRule rs → All SoundRule (credited rs i n)
+pub sound_credited : (rs : List Rule) (i n : ℕ) → AllByRecursion SoundRule rs → AllByRecursion SoundRule (credited rs i n)
 sound_credited rs i n h = all_credited SoundRule i n (raised_sound n) rs h
 
 pub pairs_credited : (R : Rule → Rule → Type 0) (i n : ℕ) → ((r s : Rule) → R r s → R (raised n r) s) → ((r s : Rule) → R r s → R r (raised n s)) → (rs : List Rule) → Pairs R rs → Pairs R (credited rs i n)
@@ -114,18 +114,18 @@ lawful_credited rs i n l =
 
 -- the same, rule by rule of the list
 abbrev pub Said : List Rule → List ℕ → Option Rule → Type 0
-Said rs k None = All (λ r. matches r k ≡ false) rs
-Said rs k (Some b) = Has rs b × (matches b k ≡ true) × All (λ r. matches r k ≡ true → (r ≡ b) ⊎ (r.priority < b.priority)) rs
+Said rs k None = AllByRecursion (λ r. matches r k ≡ false) rs
+Said rs k (Some b) = ContainsAt rs b × (matches b k ≡ true) × AllByRecursion (λ r. matches r k ≡ true → (r ≡ b) ⊎ (r.priority < b.priority)) rs
 
 said_skip : (r : Rule) (rs : List Rule) (k : List ℕ) (o : Option Rule) → matches r k ≡ false → Said rs k o → Said (r ∷ rs) k o
 said_skip r rs k None m s = (m, s)
 said_skip r rs k (Some b) m s =
     (has_append_right (r ∷ []) rs b s.0, s.1, ((λ t. absurd (both_ways (matches r k) m t)), s.2))
 
-first_of : (r : Rule) (rs : List Rule) → Has (r ∷ rs) r
+first_of : (r : Rule) (rs : List Rule) → ContainsAt (r ∷ rs) r
 first_of r rs = (0, omega arith, λ d. refl)
 
-said_more : (r : Rule) (rs : List Rule) (k : List ℕ) (o : Option Rule) → matches r k ≡ true → All (Untied r) rs → Said rs k o → Said (r ∷ rs) k (higher r o)
+said_more : (r : Rule) (rs : List Rule) (k : List ℕ) (o : Option Rule) → matches r k ≡ true → AllByRecursion (Untied r) rs → Said rs k o → Said (r ∷ rs) k (higher r o)
 said_more r rs k None m u s =
     (first_of r rs, m, ((λ _. inl refl), All-weaker (λ x. matches x k ≡ false) (λ x. matches x k ≡ true → (x ≡ r) ⊎ (x.priority < r.priority)) (λ x f t. absurd (both_ways (matches x k) f t)) rs s))
 said_more r rs k (Some b) m u s =

@@ -1,8 +1,8 @@
 -- What the places of a store say of its rules by id: ready facts for what a linear classifier does there.
-use Rattle.std.specs.Prelude.{◌≡◌, ℕ, ◌<◌, Bool, true, false, cond, List, length, get_or, Some, None, Option, nat_le, slice_index_or, slice_set}
+use Rattle.std.specs.Prelude.{◌≡◌, ℕ, ◌<◌, Bool, true, cond, List, length, get_or, Some, None, Option, nat_le, slice_index_or, slice_set}
 use Rattle.std.specs.List as holes
 use Rattle.classifier.specs.declared.rule.Rule.{Rule}
-use Rattle.classifier.specs.Tables.{Refusal, stands, clash, clash_refusal, removed, raised, credited, count_of, of_id, missing_refusal}
+use Rattle.classifier.specs.Tables.{Refusal, clash_refusal, removed, raised, credited, count_of, of_id, missing_refusal}
 use Rattle.classifier.specs.Stores.{by_id, standing}
 
 -- no rule of this id stands

@@ -1,16 +1,16 @@
 -- The order of looking: rules of two ids go in, in either turn, and what a search down the order looks at.
-use Rattle.std.specs.Prelude.{◌≡◌, ℕ, zero, suc, ◌<◌, ◌≤◌, Bool, true, false, cond, ◌&&◌, ◌||◌, ◌⊎◌, List, [], ◌∷◌, length, take, Some, None, Option, ◌==◌, nat_lt, slice_index_or, refl}
+use Rattle.std.specs.Prelude.{◌≡◌, ℕ, suc, ◌<◌, ◌≤◌, true, false, cond, ◌&&◌, ◌⊎◌, List, [], ◌∷◌, length, take, Some, None, ◌==◌, nat_lt, slice_index_or, refl}
 use Rattle.std.proofs.Common.{sym, ap, subst, ◌∙◌, inl, inr, ⊎_elim, arith}
-use Rattle.std.specs.List.{insert, AllByRecursion as All}
+use Rattle.std.specs.List.{insert, AllByRecursion}
 use Rattle.std.proofs.lemmas.List.{get_or_default, take_all}
 use Rattle.std.specs.Option.{option_map}
-use Rattle.std.proofs.lemmas.Bool.{cond_both, cond-true, cond-false, cases_Bool, cases_order, lt-ltb, le-ltb, ltb-true, ltb-false, eq-eqb, eqb-true, or_left, or_right, or_from, or_cases, or_parts, and_parts, and_from, and_left, and_right, ne_eqb, both_ways}
+use Rattle.std.proofs.lemmas.Bool.{cond_both, cond-true, cond-false, cases_Bool, cases_order, lt-ltb, le-ltb, ltb-true, eq-eqb, eqb-true, or_left, or_right, or_cases, and_parts, and_from, both_ways}
 use Rattle.std.proofs.ByRecursion.{All-weaker}
-use Rattle.flow.specs.Masks.{Bytes36, Agree, Within, union, empty_mask}
+use Rattle.flow.specs.Masks.{Agree, Within, union, empty_mask}
 use Rattle.flow.proofs.MaskLaws.{within_refl, within_trans, within_left, within_right, within_union, agree_left, agree_right, length_union}
 use Rattle.flow.proofs.WholeLaws.{empty_bytes}
 use Rattle.classifier.specs.declared.rule.Rule.{Rule}
-use Rattle.classifier.specs.Rules.{matches, clashing, best, named, found, bits_of, Adequate, FindMask, SoundRule}
+use Rattle.classifier.specs.Rules.{matches, clashing, named, found, bits_of, Adequate, FindMask, SoundRule}
 use Rattle.classifier.specs.Tables.{added, clash, stands}
 use Rattle.classifier.specs.Stores.{by_id, first_match, before, ranked, by_rank, looked_at, linear_mask}
 use Rattle.classifier.specs.Inserts.{Pairs, put, length_put, all_put, pairs_put, sorted_put, put_front, put_comm, inserted_put, inserted_last}
@@ -66,13 +66,13 @@ ranked_put [] r = refl
 ranked_put (s ∷ rs) r = ap (λ ys. cond (before r s) (r ∷ s ∷ rs) (s ∷ ys)) (ranked_put rs r)
 
 -- the place of an insertion, as a search finds it
-pub inserted_ranked : (xs : List Rule) (i : ℕ) (r d : Rule) → i < length xs → All (λ s. before r s ≡ false) (take i xs) → before r (slice_index_or xs i d) ≡ true → insert xs i r ≡ ranked xs r
+pub inserted_ranked : (xs : List Rule) (i : ℕ) (r d : Rule) → i < length xs → AllByRecursion (λ s. before r s ≡ false) (take i xs) → before r (slice_index_or xs i d) ≡ true → insert xs i r ≡ ranked xs r
 inserted_ranked xs i r d h p q =
     inserted_put before xs i r h p (λ e. subst (λ s. before r s ≡ true) (get_or_default xs i d e h) q) ∙ sym (ranked_put xs r)
 
-pub inserted_ranked_last : (xs : List Rule) (i : ℕ) (r : Rule) → i ≡ length xs → All (λ s. before r s ≡ false) (take i xs) → insert xs (length xs) r ≡ ranked xs r
+pub inserted_ranked_last : (xs : List Rule) (i : ℕ) (r : Rule) → i ≡ length xs → AllByRecursion (λ s. before r s ≡ false) (take i xs) → insert xs (length xs) r ≡ ranked xs r
 inserted_ranked_last xs i r e p =
-    inserted_last before xs r (subst (All (λ s. before r s ≡ false)) (take_all i xs (omega arith)) p) ∙ sym (ranked_put xs r)
+    inserted_last before xs r (subst (AllByRecursion (λ s. before r s ≡ false)) (take_all i xs (omega arith)) p) ∙ sym (ranked_put xs r)
 
 pub ranked_comm : (rs : List Rule) (a b : Rule) → Other a b → ranked (ranked rs a) b ≡ ranked (ranked rs b) a
 ranked_comm rs a b ne =
@@ -80,7 +80,7 @@ ranked_comm rs a b ne =
     ∙ put_comm before before_chain rs a b (before_one a b ne)
     ∙ sym (ap (λ ys. ranked ys a) (ranked_put rs b) ∙ ranked_put (put before rs b) a)
 
-pub by_rank_added : (rs : List Rule) (r : Rule) → All (Other r) rs → by_rank (added rs r) ≡ ranked (by_rank rs) r
+pub by_rank_added : (rs : List Rule) (r : Rule) → AllByRecursion (Other r) rs → by_rank (added rs r) ≡ ranked (by_rank rs) r
 unfolding by_rank added
 by_rank_added [] r h = refl
 by_rank_added (s ∷ rs) r h =
@@ -117,13 +117,13 @@ falling (x ∷ xs) o = (
 pub length_ranked : (rs : List Rule) (r : Rule) → length (ranked rs r) ≡ suc (length rs)
 length_ranked rs r = ap length (ranked_put rs r) ∙ length_put before rs r
 
-pub all_ranked : (P : Rule → Type 0) (rs : List Rule) (r : Rule) → All P rs → P r → All P (ranked rs r)
+pub all_ranked : (P : Rule → Type 0) (rs : List Rule) (r : Rule) → AllByRecursion P rs → P r → AllByRecursion P (ranked rs r)
 all_ranked P rs r h p = rw (ranked_put rs r) (all_put P before rs r h p)
 
-pub pairs_ranked : (R : Rule → Rule → Type 0) → ((x y : Rule) → R x y → R y x) → (rs : List Rule) (r : Rule) → All (R r) rs → Pairs R rs → Pairs R (ranked rs r)
+pub pairs_ranked : (R : Rule → Rule → Type 0) → ((x y : Rule) → R x y → R y x) → (rs : List Rule) (r : Rule) → AllByRecursion (R r) rs → Pairs R rs → Pairs R (ranked rs r)
 pairs_ranked R turn rs r h q = rw (ranked_put rs r) (pairs_put R turn before rs r h q)
 
-pub ordered_ranked : (rs : List Rule) (r : Rule) → All (Other r) rs → Pairs (λ r s. before r s ≡ true) rs → Pairs (λ r s. before r s ≡ true) (ranked rs r)
+pub ordered_ranked : (rs : List Rule) (r : Rule) → AllByRecursion (Other r) rs → Pairs (λ r s. before r s ≡ true) rs → Pairs (λ r s. before r s ≡ true) (ranked rs r)
 ordered_ranked rs r h o =
     rw (ranked_put rs r)
     (sorted_put before before_chain rs r
@@ -131,7 +131,7 @@ ordered_ranked rs r h o =
     (λ s ne e. ⊎_elim (λ w. absurd (both_ways (before r s) e w.0)) (λ w. w.0) (before_one r s ne)) rs h) o)
 
 -- the smallest clash is the first: rules of one priority stand by rising id
-least_above : (xs : List Rule) (new x : Rule) → x.priority ≡ new.priority → All (λ s. before x s ≡ true) xs → lesser (Some x.id) (clash xs new) ≡ Some x.id
+least_above : (xs : List Rule) (new x : Rule) → x.priority ≡ new.priority → AllByRecursion (λ s. before x s ≡ true) xs → lesser (Some x.id) (clash xs new) ≡ Some x.id
 unfolding clash
 least_above [] new x e o = refl
 least_above (s ∷ xs) new x e o =
@@ -181,7 +181,7 @@ looked_within (x ∷ xs) k =
     (λ _. within_union x.mask (looked_at xs k) (union x.mask (bits_of xs)) (within_left x.mask (bits_of xs))
     (within_trans (looked_at xs k) (bits_of xs) (union x.mask (bits_of xs)) (looked_within xs k) (within_right x.mask (bits_of xs))))
 
-pub looked_long : (xs : List Rule) (k : List ℕ) → All SoundRule xs → length (looked_at xs k) ≡ 36
+pub looked_long : (xs : List Rule) (k : List ℕ) → AllByRecursion SoundRule xs → length (looked_at xs k) ≡ 36
 unfolding looked_at
 looked_long [] k h = empty_bytes.long
 looked_long (x ∷ xs) k h =

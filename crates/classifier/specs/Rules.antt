@@ -1,7 +1,7 @@
 -- Rules: what one matches, which of several decides, and when a set of them may stand in one table.
-use Rattle.std.specs.Prelude.{◌≡◌, ℕ, ◌^◌, ◌<◌, ◌≤◌, Bool, true, false, cond, List, [], ◌∷◌, length, Some, None, Option, nat_lt}
+use Rattle.std.specs.Prelude.{◌≡◌, ℕ, ◌^◌, ◌<◌, ◌≤◌, Bool, false, cond, List, [], ◌∷◌, length, Some, None, Option, nat_lt}
 use Rattle.std.specs.Option.{option_map}
-use Rattle.std.specs.List.{AllByRecursion as All}
+use Rattle.std.specs.List.{AllByRecursion}
 use Rattle.flow.specs.Masks.{Bytes36, Within, Agree, covered, overlapping, union, empty_mask}
 use Rattle.classifier.specs.declared.rule.Rule.{Rule}
 use Rattle.classifier.specs.declared.rule.Match.{Match}
@@ -66,16 +66,16 @@ pub record SoundRule (r : Rule) : Type 0 where
 -- the ids rise, so that one list stands for one set of rules
 unfoldable pub Rising : List Rule → Type 0
 Rising [] = Unit {0}
-Rising (r ∷ rs) = All (λ s. r.id < s.id) rs × Rising rs
+Rising (r ∷ rs) = AllByRecursion (λ s. r.id < s.id) rs × Rising rs
 
 -- no two rules of one priority match one key
 unfoldable pub Apart : List Rule → Type 0
 Apart [] = Unit {0}
-Apart (r ∷ rs) = All (λ s. r.priority ≡ s.priority → clashing r s ≡ false) rs × Apart rs
+Apart (r ∷ rs) = AllByRecursion (λ s. r.priority ≡ s.priority → clashing r s ≡ false) rs × Apart rs
 
 -- the rules may stand in one table
 pub record Lawful (rs : List Rule) : Type 0 where
-  pub sound : All SoundRule rs
+  pub sound : AllByRecursion SoundRule rs
   pub rising : Rising rs
   pub apart : Apart rs
   pub few : length rs ≤ 64

@@ -1,8 +1,8 @@
 -- What a store in the order of looking keeps, from its test and back, and over each change.
-use Rattle.std.specs.Prelude.{◌≡◌, ℕ, zero, suc, ◌+◌, ◌^◌, ◌<◌, ◌≤◌, Bool, true, false, cond, not, ◌&&◌, ltb, ◌⊎◌, List, [], ◌∷◌, ◌++◌, length, Some, None, Option, ◌==◌, nat_le, nat_lt, slice_index, refl}
-use Rattle.std.proofs.Common.{sym, ap, subst, ◌∙◌, inl, inr, ⊎_elim, arith}
+use Rattle.std.specs.Prelude.{◌≡◌, ℕ, zero, suc, ◌^◌, ◌<◌, ◌≤◌, Bool, true, false, not, ◌&&◌, ltb, List, [], ◌∷◌, length, None, ◌==◌, nat_le, nat_lt, slice_index, refl}
+use Rattle.std.proofs.Common.{sym, ap, subst, ◌∙◌, ⊎_elim, arith}
 use Rattle.std.specs.List as holes
-use Rattle.std.specs.List.{AllByRecursion as All, list_all}
+use Rattle.std.specs.List.{AllByRecursion, list_all}
 use Rattle.std.proofs.lemmas.Bool.{and_parts, and_from, eqb-true, eqb-false, eq-eqb, ne_eqb, ltb-true, lt-ltb, leb-true, le-leb, not-true, not_from_false, cases_Bool}
 use Rattle.std.proofs.ByRecursion.{All-from_get_or}
 use Rattle.std.proofs.lemmas.List.Edits.{length-remove}
@@ -10,7 +10,7 @@ use Rattle.flow.specs.Masks.{Bytes36, Within, inside}
 use Rattle.flow.proofs.MaskLaws.{inside_decides}
 use Rattle.classifier.specs.declared.rule.Rule.{Rule}
 use Rattle.classifier.specs.Rules.{clashing, SoundRule, Lawful, new_rule}
-use Rattle.classifier.specs.Tables.{stands, clash, add_refusal, clash_refusal, raised, credited}
+use Rattle.classifier.specs.Tables.{stands, clash, add_refusal, credited}
 use Rattle.classifier.specs.Stores.{by_id, before, ranked, bytes_test, sound_test, pair_test, pairs_test, standing}
 use Rattle.classifier.specs.Inserts.{Pairs, all_removed, pairs_removed, pairs_weaker}
 use Rattle.classifier.specs.ByIdLaws.{Other, length_by_id, all_by_id, pairs_by_id, rising_by_id, fresh_from_stands, stands_by_id}
@@ -20,22 +20,22 @@ use Rattle.classifier.specs.LawsLemmas.{untied_admitted, sound_credited, pairs_c
 
 -- the rules of a store in the order of looking
 pub record Stored (xs : List Rule) : Type 0 where
-  pub sound : All SoundRule xs
+  pub sound : AllByRecursion SoundRule xs
   pub ordered : Pairs (λ r s. before r s ≡ true) xs
   pub other : Pairs Other xs
   pub untied : Pairs Untied xs
   pub few : length xs ≤ 64
 
-all_from_pass : {X : Type 0} (p : X → Bool) (P : X → Type 0) → ((x : X) → p x ≡ true → P x) → (xs : List X) → list_all p xs ≡ true → All P xs
+all_from_pass : {X : Type 0} (p : X → Bool) (P : X → Type 0) → ((x : X) → p x ≡ true → P x) → (xs : List X) → list_all p xs ≡ true → AllByRecursion P xs
 all_from_pass p P step [] h = tt
 all_from_pass p P step (x ∷ xs) h =
     let q = and_parts (p x) (list_all p xs) h in (step x q.0, all_from_pass p P step xs q.1)
 
-pass_from_all : {X : Type 0} (p : X → Bool) (P : X → Type 0) → ((x : X) → P x → p x ≡ true) → (xs : List X) → All P xs → list_all p xs ≡ true
+pass_from_all : {X : Type 0} (p : X → Bool) (P : X → Type 0) → ((x : X) → P x → p x ≡ true) → (xs : List X) → AllByRecursion P xs → list_all p xs ≡ true
 pass_from_all p P step [] h = refl
 pass_from_all p P step (x ∷ xs) h = and_from (p x) (list_all p xs) (step x h.0) (pass_from_all p P step xs h.1)
 
-each_byte : (xs : List ℕ) → All (λ b. b < 256) xs → (i : ℕ) → slice_index xs i < 256
+each_byte : (xs : List ℕ) → AllByRecursion (λ b. b < 256) xs → (i : ℕ) → slice_index xs i < 256
 each_byte [] h i = omega arith
 each_byte (x ∷ xs) h zero = h.0
 each_byte (x ∷ xs) h (suc i) = each_byte xs h.1 i
@@ -126,7 +126,7 @@ joined : (xs : List Rule) → Pairs (λ r s. before r s ≡ true) xs → Pairs O
 joined [] a b c = tt
 joined (x ∷ xs) a b c = (row xs a.0 b.0 c.0, joined xs a.1 b.1 c.1)
   where
-    row : (ys : List Rule) → All (λ s. before x s ≡ true) ys → All (Other x) ys → All (Untied x) ys → All (Fit x) ys
+    row : (ys : List Rule) → AllByRecursion (λ s. before x s ≡ true) ys → AllByRecursion (Other x) ys → AllByRecursion (Untied x) ys → AllByRecursion (Fit x) ys
     row [] p q u = tt
     row (y ∷ ys) p q u = ((p.0, q.0, u.0), row ys p.1 q.1 u.1)
 

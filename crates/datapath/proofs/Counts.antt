@@ -1,7 +1,7 @@
 -- Counts that grow: the laws of crediting one rule, and one table.
-use Rattle.std.proofs.Common.{◌≡◌, ℕ, zero, suc, ◌+◌, ◌%◌, ◌^◌, ◌<◌, Bool, true, false, cond, eqb, ltb, List, [], ◌∷◌, map, get_or, set, IfSome, Some, None, Option, sym, refl, ap, ◌∙◌, subst, ap₂, arith}
+use Rattle.std.proofs.Common.{◌≡◌, ℕ, ◌^◌, ◌<◌, Bool, true, false, cond, eqb, ltb, List, [], ◌∷◌, IfSome, Some, None, Option, sym, refl, ap, ◌∙◌, subst, ap₂, arith}
 use Rattle.std.specs.Option.{option_map}
-use Rattle.std.specs.List.{AllByRecursion as All}
+use Rattle.std.specs.List.{AllByRecursion}
 use Rattle.classifier.specs.declared.rule.Rule.{Rule}
 use Rattle.classifier.specs.declared.rule.Match.{Match}
 use Rattle.classifier.specs.Rules.{matches, higher, best, named, found}
@@ -64,7 +64,7 @@ unfolding credited
 credited_join [] i n m = refl
 credited_join (r ∷ rs) i n m = ap₂ ◌∷◌ (bump_join i n m r) (credited_join rs i n m)
 
-pub credited_none : (rs : List Rule) (i : ℕ) → All (λ r. r.count < 2 ^ 64) rs → credited rs i 0 ≡ rs
+pub credited_none : (rs : List Rule) (i : ℕ) → AllByRecursion (λ r. r.count < 2 ^ 64) rs → credited rs i 0 ≡ rs
 unfolding credited
 credited_none [] i h = refl
 credited_none (r ∷ rs) i h = ap₂ ◌∷◌ (bump_none i r h.0) (credited_none rs i h.1)
@@ -111,13 +111,13 @@ higher_keeps : (P : Rule → Type 0) (r : Rule) (o : Option Rule) → P r → If
 higher_keeps P r None p q = p
 higher_keeps P r (Some s) p q = elim (ltb s.priority r.priority) as (λ b. IfSome (cond b (Some r) (Some s)) P) [ true ↦ p | false ↦ q ]
 
-best_keeps : (P : Rule → Type 0) (rs : List Rule) (k : List ℕ) → All P rs → IfSome (best rs k) P
+best_keeps : (P : Rule → Type 0) (rs : List Rule) (k : List ℕ) → AllByRecursion P rs → IfSome (best rs k) P
 unfolding best
 best_keeps P [] k h = tt
 best_keeps P (r ∷ rs) k h =
     elim (matches r k) as (λ b. IfSome (cond b (higher r (best rs k)) (best rs k)) P) [ true ↦ higher_keeps P r (best rs k) h.0 (best_keeps P rs k h.1) | false ↦ best_keeps P rs k h.1 ]
 
-pub found_has : (P : Match → Type 0) (rs : List Rule) (k : List ℕ) (m : Match) → All (λ r. P (named r)) rs → found rs k ≡ Some m → P m
+pub found_has : (P : Match → Type 0) (rs : List Rule) (k : List ℕ) (m : Match) → AllByRecursion (λ r. P (named r)) rs → found rs k ≡ Some m → P m
 unfolding found
 found_has P rs k m h e = go (best rs k) (best_keeps (λ r. P (named r)) rs k h) e
   where

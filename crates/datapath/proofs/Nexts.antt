@@ -1,9 +1,9 @@
 -- The next tables of rules that were found.
-use Rattle.std.proofs.Common.{◌≡◌, ℕ, zero, suc, ◌+◌, ◌<◌, ◌≤◌, true, List, [], ◌∷◌, map, length, get_or, take, set, Some, None, Option, sym, refl, ap, ◌∙◌, subst, arith, length-take}
+use Rattle.std.proofs.Common.{◌≡◌, ℕ, zero, suc, ◌+◌, ◌<◌, true, List, [], ◌∷◌, map, length, get_or, take, set, Some, None, Option, sym, refl, ap, ◌∙◌, subst, arith, length-take}
 use Rattle.std.proofs.ByRecursion.{All-get_or}
 use Rattle.std.proofs.lemmas.List.{get_or-take, get_or-map, map-set, set-get_or}
 use Rattle.std.proofs.lemmas.Bool.Decides.{nat_tests}
-use Rattle.std.specs.List.{AllByRecursion as All}
+use Rattle.std.specs.List.{AllByRecursion}
 use Rattle.classifier.specs.declared.rule.Rule.{Rule}
 use Rattle.classifier.specs.declared.rule.Match.{Match}
 use Rattle.classifier.specs.Rules.{found}
@@ -13,15 +13,15 @@ use Rattle.datapath.specs.Walk.{TablesOf, table_of, good_next, Forward, credit_a
 use Rattle.datapath.proofs.Counts.{found_has}
 
 -- each rule of a table has a good next one
-pub forward_at : (s : ℕ) (ts : TablesOf) (t : ℕ) → Forward s ts → t < length ts → All (λ r. good_next (s + t) r.next ≡ true) (table_of ts t)
+pub forward_at : (s : ℕ) (ts : TablesOf) (t : ℕ) → Forward s ts → t < length ts → AllByRecursion (λ r. good_next (s + t) r.next ≡ true) (table_of ts t)
 unfolding Forward
 forward_at s [] t h l = absurd (omega arith)
 forward_at s (x ∷ ts) zero h l =
     let e : s ≡ s + 0 = omega arith in
-    subst (λ u. All (λ r. good_next u r.next ≡ true) x) e h.0
+    subst (λ u. AllByRecursion (λ r. good_next u r.next ≡ true) x) e h.0
 forward_at s (x ∷ ts) (suc t) h l =
     let e : s + 1 + t ≡ s + suc t = omega arith in
-    subst (λ u. All (λ r. good_next u r.next ≡ true) (table_of ts t)) e (forward_at (s + 1) ts t h.1 (omega arith))
+    subst (λ u. AllByRecursion (λ r. good_next u r.next ≡ true) (table_of ts t)) e (forward_at (s + 1) ts t h.1 (omega arith))
 
 -- a good next table that is not 0 is one of the four
 pub next_below : (t n : ℕ) → good_next t n ≡ true → (n ≡ 0 → ⊥) → n < 4
@@ -37,7 +37,7 @@ none_since None h = refl
 none_since (Some m) h = absurd (h m refl)
 
 -- a crossed rule's table is one of the four
-pub low_at : (xs : List Mark) (n i : ℕ) (d : Mark) → All (λ m. m.table < 4) (take n xs) → i < n → i < length xs → (get_or xs i d).table < 4
+pub low_at : (xs : List Mark) (n i : ℕ) (d : Mark) → AllByRecursion (λ m. m.table < 4) (take n xs) → i < n → i < length xs → (get_or xs i d).table < 4
 low_at xs n i d h l r =
     let w : i < length (take n xs) = simp length-take (omega arith) in
     subst (λ m. m.table < 4) (get_or-take n xs i d l) (All-get_or (λ m. m.table < 4) (take n xs) i d w h)

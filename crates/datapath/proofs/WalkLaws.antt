@@ -1,16 +1,15 @@
 -- The laws of the walk and of the counts that it moves: what caches use, so that none of them looks into the walk.
-use Rattle.std.proofs.Common.{◌≡◌, ℕ, zero, suc, ◌+◌, ◌^◌, ◌<◌, Bool, true, false, cond, eqb, List, [], ◌∷◌, ◌++◌, length, get_or, set, Some, None, Option, sym, refl, ap, ◌∙◌, ap₂, arith}
+use Rattle.std.proofs.Common.{◌≡◌, ℕ, zero, suc, ◌^◌, ◌<◌, true, false, cond, eqb, List, [], ◌∷◌, ◌++◌, Some, None, Option, sym, refl, ap, ◌∙◌}
 use mathlib.Core.Path.{fun_ext}
 use Rattle.classifier.specs.declared.rule.Match.{Match}
-use Rattle.std.specs.List.{AllByRecursion as All}
+use Rattle.std.specs.List.{AllByRecursion}
 use Rattle.std.proofs.ByRecursion.{All-weaker}
-use Rattle.flow.specs.Masks.{Bytes36, Agree, Covers, Within}
+use Rattle.flow.specs.Masks.{Within}
 use Rattle.flow.proofs.MaskLaws.{agree_within}
-use Rattle.classifier.specs.declared.rule.Rule.{Rule}
 use Rattle.classifier.specs.Rules.{Lawful, SoundRule, found}
-use Rattle.classifier.specs.Tables.{plus, credited}
+use Rattle.classifier.specs.Tables.{plus}
 use Rattle.datapath.specs.declared.level.Mark.{Mark}
-use Rattle.datapath.specs.Walk.{TablesOf, table_of, crossing, walk_from, walk, ports_of, Alike, Tells, credit_at, credit_along, due, LawfulTables}
+use Rattle.datapath.specs.Walk.{TablesOf, table_of, crossing, walk_from, walk, ports_of, Alike, Tells, credit_at, credit_along, due}
 use Rattle.datapath.specs.Laws.{DecidedThere, WalkLaws}
 use Rattle.datapath.specs.Entries.{Entry, TrueEntry, AllTrue}
 use Rattle.datapath.proofs.Counts.{credited_swap, credited_join, credited_none, found_credited}
@@ -31,7 +30,7 @@ at_join (x ∷ ts) (suc t) i n m = ap (λ y. x ∷ y) (at_join ts t i n m)
 
 -- every count has 64 bits
 abbrev pub CountsFit : TablesOf → Type 0
-CountsFit ts = All (λ rs. All (λ r. r.count < 2 ^ 64) rs) ts
+CountsFit ts = AllByRecursion (λ rs. AllByRecursion (λ r. r.count < 2 ^ 64) rs) ts
 
 at_none : (ts : TablesOf) (t i : ℕ) → CountsFit ts → credit_at ts t i 0 ≡ ts
 at_none [] t i h = refl
@@ -115,12 +114,12 @@ unfolding due
 due_join ts k n m = ap (λ w. credit_along (credit_along ts (walk ts k) n) w m) (walk_due ts k n k) ∙ along_join (walk ts k) ts n m
 
 -- counts of lawful tables fit
-pub counts_fit : (ts : TablesOf) → All Lawful ts → CountsFit ts
+pub counts_fit : (ts : TablesOf) → AllByRecursion Lawful ts → CountsFit ts
 counts_fit [] h = tt
 counts_fit (x ∷ ts) h = (All-weaker SoundRule (λ r. r.count < 2 ^ 64) (λ r s. s.count_fits) x h.0.sound, counts_fit ts h.1)
 
 -- a credit of 0 is none
-pub due_none : (ts : TablesOf) (k : List ℕ) → All Lawful ts → due ts k 0 ≡ ts
+pub due_none : (ts : TablesOf) (k : List ℕ) → AllByRecursion Lawful ts → due ts k 0 ≡ ts
 unfolding due
 due_none ts k h = along_none (walk ts k) ts (counts_fit ts h)
 
@@ -168,12 +167,12 @@ all_true_due ts k n es h = All-weaker (TrueEntry ts) (TrueEntry (due ts k n)) (�
 
 -- What is crossed -----------------------------------------------------------------------------------------------
 
-crossed_next : (ts : TablesOf) (k : List ℕ) (w : ℕ → List Mark) (t : ℕ) (o : Option Match) → found (table_of ts t) k ≡ o → ((u : ℕ) → All (DecidedThere ts k) (w u)) → All (DecidedThere ts k) (crossing t o w)
+crossed_next : (ts : TablesOf) (k : List ℕ) (w : ℕ → List Mark) (t : ℕ) (o : Option Match) → found (table_of ts t) k ≡ o → ((u : ℕ) → AllByRecursion (DecidedThere ts k) (w u)) → AllByRecursion (DecidedThere ts k) (crossing t o w)
 crossed_next ts k w t None e h = tt
 crossed_next ts k w t (Some m) e h =
-    (e, elim (eqb m.next 0) as (λ b. All (DecidedThere ts k) (cond b [] (w m.next))) [ true ↦ tt | false ↦ h m.next ])
+    (e, elim (eqb m.next 0) as (λ b. AllByRecursion (DecidedThere ts k) (cond b [] (w m.next))) [ true ↦ tt | false ↦ h m.next ])
 
-crossed_there : (f : ℕ) (ts : TablesOf) (t : ℕ) (k : List ℕ) → All (DecidedThere ts k) (walk_from f ts t k)
+crossed_there : (f : ℕ) (ts : TablesOf) (t : ℕ) (k : List ℕ) → AllByRecursion (DecidedThere ts k) (walk_from f ts t k)
 unfolding walk_from
 crossed_there zero ts t k = tt
 crossed_there (suc f) ts t k = crossed_next ts k (λ u. walk_from f ts u k) t (found (table_of ts t) k) refl (λ u. crossed_there f ts u k)

@@ -1,5 +1,5 @@
 -- What add, remove and count answer, and what they do to the tables.
-use Rattle.std.specs.Prelude.{ℕ, ◌%◌, cond, List, Some, None, Option, ◌==◌, nat_lt, slice_set}
+use Rattle.std.specs.Prelude.{ℕ, ◌%◌, cond, Some, None, Option, ◌==◌, nat_lt, slice_set}
 use Rattle.flow.specs.Masks.{first_outside}
 use Rattle.classifier.specs.declared.rule.Rule.{Rule}
 use Rattle.classifier.specs.Rules.{new_rule}

@@ -1,6 +1,6 @@
 -- The entries of cache levels, as far as their truth goes.
 use Rattle.std.specs.Prelude.{◌≡◌, ℕ, List}
-use Rattle.std.specs.List.{AllByRecursion as All}
+use Rattle.std.specs.List.{AllByRecursion}
 use Rattle.flow.specs.Masks.{Bytes36, Covers}
 use Rattle.datapath.specs.Walk.{TablesOf, walk, ports_of, Alike}
 
@@ -17,4 +17,4 @@ TrueEntry ts e =
     → Alike ts e.value q × (ports_of (walk ts q) ≡ e.ports)
 
 unfoldable pub AllTrue : TablesOf → List Entry → Type 0
-AllTrue ts es = All (TrueEntry ts) es
+AllTrue ts es = AllByRecursion (TrueEntry ts) es

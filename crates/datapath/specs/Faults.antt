@@ -1,5 +1,4 @@
 -- The numbers and details of the refusals of the tables. A classifier's fault lies whole inside.
-use Rattle.std.specs.Prelude.{ℕ}
 use Rattle.classifier.specs.Tables.{Refusal}
 use Rattle.classifier.specs.Faults as classifier
 use Rattle.datapath.specs.declared.fault.TablesFault.{TablesFault}

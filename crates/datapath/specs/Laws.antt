@@ -1,6 +1,6 @@
 -- Laws of the walk, above its definition.
 use Rattle.std.specs.Prelude.{◌≡◌, ℕ, List, Some}
-use Rattle.std.specs.List.{AllByRecursion as All}
+use Rattle.std.specs.List.{AllByRecursion}
 use Rattle.classifier.specs.declared.rule.Match.{Match}
 use Rattle.classifier.specs.Rules.{found}
 use Rattle.classifier.specs.Tables.{plus}
@@ -17,7 +17,7 @@ DecidedThere ts k m = found (table_of ts m.table) k ≡ Some (match_of m)
 
 pub record WalkLaws : Type 0 where
   -- in each table that a key crosses, the matching rule of highest priority is the one crossed
-  pub decided : (ts : TablesOf) (k : List ℕ) → All (DecidedThere ts k) (walk ts k)
+  pub decided : (ts : TablesOf) (k : List ℕ) → AllByRecursion (DecidedThere ts k) (walk ts k)
   -- counts change no walk
   pub counts_aside : (ts : TablesOf) (k q : List ℕ) (n : ℕ) → walk (due ts k n) q ≡ walk ts q
   -- keys that are treated alike move the same counts

@@ -1,7 +1,7 @@
 -- The walk of a key over the tables, and the counts that it moves.
 -- Its laws are in proofs/: other proofs use those and open no definition.
-use Rattle.std.specs.Prelude.{◌≡◌, ℕ, zero, suc, ◌+◌, Bool, true, false, cond, ◌&&◌, ◌||◌, List, [], ◌∷◌, length, Some, None, Option, ◌==◌, bit_or, nat_le, nat_lt, slice_index_or, slice_set}
-use Rattle.std.specs.List.{AllByRecursion as All}
+use Rattle.std.specs.Prelude.{◌≡◌, ℕ, zero, suc, ◌+◌, Bool, true, cond, ◌&&◌, ◌||◌, List, [], ◌∷◌, length, Some, None, Option, ◌==◌, bit_or, nat_le, nat_lt, slice_index_or, slice_set}
+use Rattle.std.specs.List.{AllByRecursion}
 use Rattle.flow.specs.Masks.{Bytes36, Agree}
 use Rattle.classifier.specs.declared.rule.Rule.{Rule}
 use Rattle.classifier.specs.declared.rule.Match.{Match}
@@ -72,10 +72,10 @@ due ts k n = credit_along ts (walk ts k) n
 -- from this table on, each rule's next table is a good one
 unfoldable pub Forward : ℕ → TablesOf → Type 0
 Forward t [] = Unit {0}
-Forward t (rs ∷ ts) = All (λ r. good_next t r.next ≡ true) rs × Forward (t + 1) ts
+Forward t (rs ∷ ts) = AllByRecursion (λ r. good_next t r.next ≡ true) rs × Forward (t + 1) ts
 
 -- what holds of the tables of every level: four of them, each lawful, each rule with a good next table
 pub record LawfulTables (ts : TablesOf) : Type 0 where
   pub four : length ts ≡ 4
-  pub each : All Lawful ts
+  pub each : AllByRecursion Lawful ts
   pub forward : Forward 0 ts

@@ -1,6 +1,6 @@
 // The walk over the tables.
 ghost use Rattle.std.specs.Prelude.{◌≡◌, ◌<◌, ◌≤◌, map, length, take};
-ghost use Rattle.std.specs.List.{AllByRecursion as All};
+ghost use Rattle.std.specs.List.{AllByRecursion};
 ghost use Rattle.datapath.specs.Given.{WalkGives};
 ghost use Rattle.datapath.specs.Walk.{Forward, walk, ports_of, Tells, credit_along, due};
 
@@ -28,7 +28,7 @@ impl<C: Classifier> Tables<C> {
         ensures mask { Tells (map C.Classifier.rules self.now.classifiers.items) key.now result.mask }
         ensures given { WalkGives C.Classifier.gives C.Classifier.rules self.now.classifiers.items key.now result.mask }
         ensures few { result.len ≤ 4 }
-        ensures places { All (λ m. m.table < 4) (take result.len result.crossed) }
+        ensures places { AllByRecursion (λ m. m.table < 4) (take result.len result.crossed) }
     {
         let mut table = 0usize;
         let mut ports = 0u64;
@@ -76,7 +76,7 @@ impl<C: Classifier> Tables<C> {
     pub fn credit_along(&mut self, walk: &Walk, n: u64)
         requires four { length self.old.classifiers.items ≡ 4 }
         requires few { walk.now.len ≤ 4 }
-        requires places { All (λ m. m.table < 4) (take walk.now.len walk.now.crossed) }
+        requires places { AllByRecursion (λ m. m.table < 4) (take walk.now.len walk.now.crossed) }
         ensures kept { length self.new.classifiers.items ≡ 4 }
         ensures counted { map C.Classifier.rules self.new.classifiers.items ≡ credit_along (map C.Classifier.rules self.old.classifiers.items) (take walk.now.len walk.now.crossed) n }
     {

@@ -1,6 +1,6 @@
 -- How an index is kept while its slots change: what the owners of slots use.
 use Rattle.std.proofs.Common.{◌≡◌, ℕ, zero, suc, ◌<◌, ◌≤◌, Bool, true, false, not, ◌&&◌, ◌||◌, eqb, ltb, List, [], ◌∷◌, ◌++◌, length, get_or, set, replicate, sym, refl, ap, ◌∙◌, ap₂, ⊎_elim, arith}
-use Rattle.std.specs.List.{AllByRecursion as All}
+use Rattle.std.specs.List.{AllByRecursion}
 use Rattle.std.proofs.lemmas.Bool.{cases_eq, eq-eqb, ne_eqb, lt-ltb, and_left, and_right}
 use Rattle.search.specs.Buckets.{has, stands, bit_of, Indexed, Empty, Marked, Unmarked}
 
@@ -43,7 +43,7 @@ module _ {E : Type 0} (may : E → Bool) (bucket : E → ℕ) where
   stands_before (x ∷ xs) b zero e n = refl
   stands_before (x ∷ xs) b (suc k) e n = stands_before xs b k e (λ q. n (ap suc q))
 
-  stands_idle : (xs : List E) → All (λ e. may e ≡ false) xs → (b i : ℕ) → stands may bucket xs b i ≡ false
+  stands_idle : (xs : List E) → AllByRecursion (λ e. may e ≡ false) xs → (b i : ℕ) → stands may bucket xs b i ≡ false
   unfolding stands
   stands_idle [] h b i = refl
   stands_idle (x ∷ xs) h b zero = and_left (may x) (eqb (bucket x) b) h.0
@@ -90,14 +90,14 @@ unmarked_own bs cs b i c x l f m =
 
 module _ {E : Type 0} (may : E → Bool) (bucket : E → ℕ) where
   -- slots none of which may answer, and an index with no bit: at first, and after clear
-  pub indexed_idle : (slots : List E) (bs : List ℕ) → All (λ e. may e ≡ false) slots → Empty bs → Indexed may bucket slots bs
+  pub indexed_idle : (slots : List E) (bs : List ℕ) → AllByRecursion (λ e. may e ≡ false) slots → Empty bs → Indexed may bucket slots bs
   indexed_idle slots bs h z b i = z b i ∙ sym (stands_idle may bucket slots h b i)
 
   pub indexed_free : (n : ℕ) (e : E) (bs : List ℕ) → may e ≡ false → Empty bs → Indexed may bucket (replicate n e) bs
   indexed_free n e bs f z = indexed_idle (replicate n e) bs (alike n)
       z
     where
-      alike : (n : ℕ) → All (λ x. may x ≡ false) (replicate n e)
+      alike : (n : ℕ) → AllByRecursion (λ x. may x ≡ false) (replicate n e)
       alike zero = tt
       alike (suc n) = (f, alike n)
 

@@ -1,4 +1,4 @@
-use Rattle.std.proofs.Common.{◌≡◌, true, sym, refl, subst, ap₂, arith}
+use Rattle.std.proofs.Common.{◌≡◌, true, sym, subst, ap₂, arith}
 use Rattle.classifier.specs.Rules.{new_rule}
 use Rattle.classifier.specs.Stores.{sound_test}
 use Rattle.classifier.specs.StandingLaws.{new_sound}

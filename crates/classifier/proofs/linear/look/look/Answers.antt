@@ -1,4 +1,4 @@
-use Rattle.std.proofs.Common.{Some, sym, refl, ap, ◌∙◌, rules}
+use Rattle.std.proofs.Common.{Some, refl, ap, ◌∙◌, rules}
 use Rattle.flow.specs.Masks.{union}
 use Rattle.classifier.specs.Stores.{looked_at}
 use Rattle.classifier.proofs.ScanLaws.{first_next, first_here, first_none, looked_next, looked_here, looked_none}

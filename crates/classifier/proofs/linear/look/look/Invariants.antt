@@ -1,5 +1,4 @@
 use Rattle.std.proofs.Common.{◌≡◌, length, drop}
-use Rattle.std.specs.Option.{option_map}
 use Rattle.flow.specs.Masks.{union, empty_mask}
 use Rattle.classifier.specs.Stores.{first_match, looked_at}
 use Rattle.classifier.proofs.linear.look.look.Given as goal

@@ -1,4 +1,4 @@
-use Rattle.std.proofs.Common.{vec_items, arith}
+use Rattle.std.proofs.Common.{vec_items}
 use Rattle.classifier.specs.StandingLaws.{standing_none, by_id_none}
 use Rattle.classifier.proofs.store.Store.new.Goals as goal
 

@@ -1,4 +1,4 @@
-use Rattle.std.proofs.Common.{[], get_or}
+use Rattle.std.proofs.Common.{[]}
 use Rattle.classifier.proofs.ScanLaws.{stands_next, stands_here, stands_none}
 use Rattle.classifier.proofs.PlaceLaws.{absent_from, placed_from}
 use Rattle.classifier.proofs.store.scan.place_of.Goals as goal

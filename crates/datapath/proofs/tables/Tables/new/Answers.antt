@@ -8,9 +8,9 @@ pub loop-preserved : goal.loop-preserved
 loop-preserved g c =
     let f = g.C.Classifier.rules in
     let xs = vec_items c.loop.classifiers in
-    ap (map f) c.in-ok-push.ensures.items
+    ap (map f) c.in_ok-push.ensures.items
     ∙ map_push f xs _
-    ∙ ap₂ (λ (a : List (List Rule)) (b : List Rule). a ++ b ∷ []) c.loop.invariant c.in-ok-new.ensures
+    ∙ ap₂ (λ (a : List (List Rule)) (b : List Rule). a ++ b ∷ []) c.loop.invariant c.in_ok-new.ensures
     ∙ replicate_more c.loop.counter []
 
 empty_forward : Forward 0 no_rules

@@ -1,17 +1,15 @@
-use Rattle.std.proofs.Common.{◌≡◌, ℕ, suc, ◌+◌, ◌-◌, ◌<◌, ◌≤◌, List, [], ◌∷◌, ◌++◌, map, length, get_or, take, set, Some, None, vec_items, sym, refl, ap, ◌∙◌, subst, arith, length-set, rules}
+use Rattle.std.proofs.Common.{◌≡◌, ℕ, suc, ◌+◌, ◌-◌, ◌<◌, List, [], ◌∷◌, ◌++◌, map, length, take, set, Some, None, vec_items, sym, refl, ap, ◌∙◌, subst, arith, length-set}
 use lib.Bits.{bit_or}
-use Rattle.std.proofs.ByRecursion.{All-append, All-push}
+use Rattle.std.proofs.ByRecursion.{All-push}
 use Rattle.std.proofs.lemmas.List.{get_or-map, length-map, take_more_set}
-use Rattle.std.specs.List.{AllByRecursion as All}
+use Rattle.std.specs.List.{AllByRecursion}
 use Rattle.flow.specs.Masks.{union}
-use Rattle.classifier.specs.declared.rule.Rule.{Rule}
 use Rattle.classifier.specs.Rules.{found, Adequate}
-use Rattle.datapath.specs.declared.level.Mark.{Mark}
 use Rattle.datapath.specs.Walk.{table_of, mark_of, Tells}
 use Rattle.datapath.specs.Given.{TableGives, Joins}
 use Rattle.datapath.proofs.Givens.{table_gives_at, joins_stop, joins_last, joins_onward, joins_end}
 use Rattle.datapath.proofs.Nexts.{found_next, none_since}
-use Rattle.datapath.proofs.Steps.{Going, Over, begin, stop, last, onward, over}
+use Rattle.datapath.proofs.Steps.{Going, begin, stop, last, onward, over}
 use Rattle.datapath.proofs.tables.Tables.walk.Goals as goal
 
 pub loop-i-init : goal.loop-i-init
@@ -19,12 +17,12 @@ loop-i-init g c = (
   omega arith,
   refl,
   tt,
-  subst (λ m. Going (map g.C.Classifier.rules (vec_items c.args.self.now.classifiers)) c.args.key.now 4 0 0 m []) (sym c.empty-mask-mask.ensures) (begin _ _),
-  λ w j. subst (λ m. Joins (λ t f. TableGives g.C.Classifier.gives (vec_items c.args.self.now.classifiers) t c.args.key.now f) 4 (map g.C.Classifier.rules (vec_items c.args.self.now.classifiers)) 0 c.args.key.now m w) c.empty-mask-mask.ensures j,
+  subst (λ m. Going (map g.C.Classifier.rules (vec_items c.args.self.now.classifiers)) c.args.key.now 4 0 0 m []) (sym c.empty_mask-mask.ensures) (begin _ _),
+  λ w j. subst (λ m. Joins (λ t f. TableGives g.C.Classifier.gives (vec_items c.args.self.now.classifiers) t c.args.key.now f) 4 (map g.C.Classifier.rules (vec_items c.args.self.now.classifiers)) 0 c.args.key.now m w) c.empty_mask-mask.ensures j,
 )
 
-pub returns-in-default : goal.returns-in-default
-returns-in-default g c =
+pub returns-in_default : goal.returns-in_default
+returns-in_default g c =
     let f = g.C.Classifier.rules in
     let xs = vec_items c.args.self.now.classifiers in
     let t = c.loop-i.table in
@@ -39,13 +37,13 @@ returns-in-default g c =
     let G = λ (u : ℕ) (y : List ℕ). TableGives g.C.Classifier.gives xs u k y in
     let own : TableGives g.C.Classifier.gives xs t k m = table_gives_at g.C.Classifier.gives xs t k m c.index.result.now lt c.index.ensures c.find-find.ensures.given in
     let back = λ (w : List ℕ) (j : Joins G (suc (4 - (i + 1))) (map f xs) t k c.loop-i.mask w). c.loop-i.invariant.4 w (subst (λ n. Joins G n (map f xs) t k c.loop-i.mask w) (sym fuel) j) in
-    let no : found (table_of (map f xs) t) k ≡ None = ap (λ rs. found rs k) at ∙ sym c.find-find.ensures.rule ∙ none_since _ c.in-default.not-Some in
+    let no : found (table_of (map f xs) t) k ≡ None = ap (λ rs. found rs k) at ∙ sym c.find-find.ensures.rule ∙ none_since _ c.in_default.not-Some in
     let e = stop (map f xs) k _ t _ _ _ m s safe no in
     record {
       crossed = e.crossed;
       ports = e.ports;
-      mask = subst (Tells (map f xs) k) (sym c.union-into.ensures) e.mask;
-      given = back c.union-into.new.into (joins_stop G (4 - (i + 1)) (map f xs) t k c.loop-i.mask m c.union-into.new.into own no (sym c.union-into.ensures));
+      mask = subst (Tells (map f xs) k) (sym c.union_into.ensures) e.mask;
+      given = back c.union_into.new.into (joins_stop G (4 - (i + 1)) (map f xs) t k c.loop-i.mask m c.union_into.new.into own no (sym c.union_into.ensures));
       few = omega arith;
       places = c.loop-i.invariant.2;
     }
@@ -67,7 +65,7 @@ returns-then-rule-eq0 g c =
     let some : found (table_of (map f xs) t) k ≡ Some h = ap (λ rs. found rs k) at ∙ sym c.find-find.ensures.rule ∙ c.in-Some.is in
     let room : i < length c.loop-i.crossed = omega (arith, c.loop-i.invariant.1, c.loop-i-test.true) in
     let push : take (i + 1) (set c.loop-i.crossed i (mark_of t h)) ≡ take i c.loop-i.crossed ++ mark_of t h ∷ [] = take_more_set c.loop-i.crossed i (mark_of t h) room in
-    let low : All (λ x. x.table < 4) (take (i + 1) (set c.loop-i.crossed i (mark_of t h))) = subst (All (λ x. x.table < 4)) (sym push) (All-push (λ x. x.table < 4) (take i c.loop-i.crossed) (mark_of t h) c.loop-i.invariant.2 c.loop-i.invariant.0) in
+    let low : AllByRecursion (λ x. x.table < 4) (take (i + 1) (set c.loop-i.crossed i (mark_of t h))) = subst (AllByRecursion (λ x. x.table < 4)) (sym push) (All-push (λ x. x.table < 4) (take i c.loop-i.crossed) (mark_of t h) c.loop-i.invariant.2 c.loop-i.invariant.0) in
     let G = λ (u : ℕ) (y : List ℕ). TableGives g.C.Classifier.gives xs u k y in
     let own : TableGives g.C.Classifier.gives xs t k m = table_gives_at g.C.Classifier.gives xs t k m c.index.result.now lt c.index.ensures c.find-find.ensures.given in
     let back = λ (w : List ℕ) (j : Joins G (suc (4 - (i + 1))) (map f xs) t k c.loop-i.mask w). c.loop-i.invariant.4 w (subst (λ n. Joins G n (map f xs) t k c.loop-i.mask w) (sym fuel) j) in
@@ -75,8 +73,8 @@ returns-then-rule-eq0 g c =
     record {
       crossed = push ∙ e.crossed;
       ports = e.ports;
-      mask = subst (Tells (map f xs) k) (sym c.union-into.ensures) e.mask;
-      given = back c.union-into.new.into (joins_last G (4 - (i + 1)) (map f xs) t k c.loop-i.mask m c.union-into.new.into own h some c.if-rule-eq0.true (sym c.union-into.ensures));
+      mask = subst (Tells (map f xs) k) (sym c.union_into.ensures) e.mask;
+      given = back c.union_into.new.into (joins_last G (4 - (i + 1)) (map f xs) t k c.loop-i.mask m c.union_into.new.into own h some c.if-rule-eq0.true (sym c.union_into.ensures));
       few = omega (arith, c.loop-i-test.true);
       places = low;
     }
@@ -98,7 +96,7 @@ loop-i-preserved g c =
     let some : found (table_of (map f xs) t) k ≡ Some h = ap (λ rs. found rs k) at ∙ sym c.find-find.ensures.rule ∙ c.in-Some.is in
     let room : i < length c.loop-i.crossed = omega (arith, c.loop-i.invariant.1, c.loop-i-test.true) in
     let push : take (i + 1) (set c.loop-i.crossed i (mark_of t h)) ≡ take i c.loop-i.crossed ++ mark_of t h ∷ [] = take_more_set c.loop-i.crossed i (mark_of t h) room in
-    let low : All (λ x. x.table < 4) (take (i + 1) (set c.loop-i.crossed i (mark_of t h))) = subst (All (λ x. x.table < 4)) (sym push) (All-push (λ x. x.table < 4) (take i c.loop-i.crossed) (mark_of t h) c.loop-i.invariant.2 c.loop-i.invariant.0) in
+    let low : AllByRecursion (λ x. x.table < 4) (take (i + 1) (set c.loop-i.crossed i (mark_of t h))) = subst (AllByRecursion (λ x. x.table < 4)) (sym push) (All-push (λ x. x.table < 4) (take i c.loop-i.crossed) (mark_of t h) c.loop-i.invariant.2 c.loop-i.invariant.0) in
     let G = λ (u : ℕ) (y : List ℕ). TableGives g.C.Classifier.gives xs u k y in
     let own : TableGives g.C.Classifier.gives xs t k m = table_gives_at g.C.Classifier.gives xs t k m c.index.result.now lt c.index.ensures c.find-find.ensures.given in
     let back = λ (w : List ℕ) (j : Joins G (suc (4 - (i + 1))) (map f xs) t k c.loop-i.mask w). c.loop-i.invariant.4 w (subst (λ n. Joins G n (map f xs) t k c.loop-i.mask w) (sym fuel) j) in
@@ -107,10 +105,10 @@ loop-i-preserved g c =
       omega (arith, found_next (map f xs) t k h c.requires.forward wide some c.if-rule-eq0.false, c.from-table.ensures),
       simp length-set c.loop-i.invariant.1,
       low,
-      subst (λ u. Going (map f xs) k (4 - (i + 1)) u (bit_or c.loop-i.ports h.ports) c.union-into.new.into (take (i + 1) (set c.loop-i.crossed i (mark_of t h)))) (sym c.from-table.ensures)
-          (subst (λ x. Going (map f xs) k (4 - (i + 1)) h.next (bit_or c.loop-i.ports h.ports) x (take (i + 1) (set c.loop-i.crossed i (mark_of t h)))) (sym c.union-into.ensures)
+      subst (λ u. Going (map f xs) k (4 - (i + 1)) u (bit_or c.loop-i.ports h.ports) c.union_into.new.into (take (i + 1) (set c.loop-i.crossed i (mark_of t h)))) (sym c.from-table.ensures)
+          (subst (λ x. Going (map f xs) k (4 - (i + 1)) h.next (bit_or c.loop-i.ports h.ports) x (take (i + 1) (set c.loop-i.crossed i (mark_of t h)))) (sym c.union_into.ensures)
           (subst (Going (map f xs) k (4 - (i + 1)) h.next (bit_or c.loop-i.ports h.ports) (union c.loop-i.mask m)) (sym push) e)),
-      λ w j. back w (joins_onward G (4 - (i + 1)) (map f xs) t k c.loop-i.mask m w own h some c.if-rule-eq0.false (subst (λ u. Joins G (4 - (i + 1)) (map f xs) u k (union c.loop-i.mask m) w) c.from-table.ensures (subst (λ x. Joins G (4 - (i + 1)) (map f xs) c.from-table.result k x w) c.union-into.ensures j))),
+      λ w j. back w (joins_onward G (4 - (i + 1)) (map f xs) t k c.loop-i.mask m w own h some c.if-rule-eq0.false (subst (λ u. Joins G (4 - (i + 1)) (map f xs) u k (union c.loop-i.mask m) w) c.from-table.ensures (subst (λ x. Joins G (4 - (i + 1)) (map f xs) c.from-table.result k x w) c.union_into.ensures j))),
     )
 
 pub returns : goal.returns
@@ -126,5 +124,5 @@ returns g c =
       mask = e.mask;
       given = c.loop-i.invariant.4 c.loop-i.mask (subst (λ n. Joins (λ t f. TableGives g.C.Classifier.gives xs t c.args.key.now f) n (map f xs) c.loop-i.table c.args.key.now c.loop-i.mask c.loop-i.mask) (sym fuel) (joins_end _ (map f xs) c.loop-i.table c.args.key.now c.loop-i.mask));
       few = omega arith;
-      places = subst (λ n. All (λ x. x.table < 4) (take n c.loop-i.crossed)) end c.loop-i.invariant.2;
+      places = subst (λ n. AllByRecursion (λ x. x.table < 4) (take n c.loop-i.crossed)) end c.loop-i.invariant.2;
     }

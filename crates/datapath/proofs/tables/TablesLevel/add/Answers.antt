@@ -1,7 +1,6 @@
-use Rattle.std.proofs.Common.{◌≡◌, ℕ, ◌+◌, ◌<◌, true, [], map, length, get_or, set, vec_items, sym, refl, ap, ◌∙◌, subst, ap₂, arith, length-set, rules}
+use Rattle.std.proofs.Common.{◌≡◌, ℕ, ◌+◌, ◌<◌, true, [], map, length, get_or, set, vec_items, sym, refl, ap, ◌∙◌, subst, ap₂, arith, length-set}
 use Rattle.std.proofs.lemmas.List.{get_or-map, length-map}
 use Rattle.std.proofs.lemmas.Result.{err_from_is_err_and}
-use Rattle.std.proofs.lemmas.Bool.Decides.{nat_tests}
 use Rattle.classifier.specs.Rules.{new_rule}
 use Rattle.classifier.specs.Tables.{add_refusal, added}
 use Rattle.datapath.specs.Calls.{rule_of, with_rule}
@@ -14,46 +13,46 @@ use Rattle.datapath.proofs.tables.TablesLevel.add.Goals as goal
 zero_add_back : (t : ℕ) → t ≡ 0 + t
 zero_add_back t = omega arith
 
-pub returns-in-err-t : goal.returns-in-err-t
-returns-in-err-t g c =
-    let p = err_from_is_err_and c.from-residual.result c.from-residual.ensures.1 in
+pub returns-in_err-t : goal.returns-in_err-t
+returns-in_err-t g c =
+    let p = err_from_is_err_and c.from_residual.result c.from_residual.ensures.1 in
     let ts = map g.C.Classifier.rules (vec_items c.args.self.now.classifiers) in
-    record { kept = c.requires; value = rw (p.1, p.2) (add_table ts c.args.rule.now _ c.in-err-t.ensures, refl) }
+    record { kept = c.requires; value = rw (p.1, p.2) (add_table ts c.args.rule.now _ c.in_err-t.ensures, refl) }
 
-pub returns-in-err-key : goal.returns-in-err-key
-returns-in-err-key g c =
-    let p = err_from_is_err_and c.from-residual-in-err-key.result c.from-residual-in-err-key.ensures.1 in
+pub returns-in_err-key : goal.returns-in_err-key
+returns-in_err-key g c =
+    let p = err_from_is_err_and c.from_residual-in_err-key.result c.from_residual-in_err-key.ensures.1 in
     let ts = map g.C.Classifier.rules (vec_items c.args.self.now.classifiers) in
-    let at = c.in-ok-t.ensures in
-    record { kept = c.requires; value = rw (p.1, p.2) (add_outside ts c.args.rule.now _ at.0 c.in-err-key.ensures, refl) }
+    let at = c.in_ok-t.ensures in
+    record { kept = c.requires; value = rw (p.1, p.2) (add_outside ts c.args.rule.now _ at.0 c.in_err-key.ensures, refl) }
 
-pub returns-in-err-check-action : goal.returns-in-err-check-action
-returns-in-err-check-action g c =
-    let p = err_from_is_err_and c.from-residual-in-err-check-action.result c.from-residual-in-err-check-action.ensures.1 in
+pub returns-in_err-check_action : goal.returns-in_err-check_action
+returns-in_err-check_action g c =
+    let p = err_from_is_err_and c.from_residual-in_err-check_action.result c.from_residual-in_err-check_action.ensures.1 in
     let ts = map g.C.Classifier.rules (vec_items c.args.self.now.classifiers) in
     let r = c.args.rule.now in
-    let at = c.in-ok-t.ensures in
-    let key = c.in-ok-key.ensures in
-    record { kept = c.requires; value = rw (p.1, p.2) (add_action ts r _ (record_action ts r _ at.0 key.0 c.in-err-check-action.ensures), refl) }
+    let at = c.in_ok-t.ensures in
+    let key = c.in_ok-key.ensures in
+    record { kept = c.requires; value = rw (p.1, p.2) (add_action ts r _ (record_action ts r _ at.0 key.0 c.in_err-check_action.ensures), refl) }
 
-pub returns-in-err-add : goal.returns-in-err-add
-returns-in-err-add g c =
-    let p = err_from_is_err_and c.from-residual-in-err-add.result c.from-residual-in-err-add.ensures.1 in
+pub returns-in_err-add : goal.returns-in_err-add
+returns-in_err-add g c =
+    let p = err_from_is_err_and c.from_residual-in_err-add.result c.from_residual-in_err-add.ensures.1 in
     let r = c.args.rule.now in
     let f = g.C.Classifier.rules in
     let xs = vec_items c.args.self.now.classifiers in
     let ts = map f xs in
-    let t = c.in-ok-t.t in
-    let at = c.in-ok-t.ensures in
+    let t = c.in_ok-t.t in
+    let at = c.in_ok-t.ensures in
     let lt : t < length xs = omega (arith, at.2, c.requires.0) in
-    let here : table_of ts t ≡ f c.index-mut.result.now = get_or-map f xs t c.index-mut.result.now [] lt ∙ ap f (sym c.index-mut.ensures.value) in
-    let was : f c.index-mut.result.now ≡ f (get_or xs t c.index-mut.result.now) = ap f c.index-mut.ensures.value in
-    let key = c.in-ok-key.ensures in
-    let e = c.in-err-add.ensures in
-    let is : rule_of r ≡ new_rule r.id r.priority c.in-ok-key.key.mask c.in-ok-key.key.value r.ports r.next = ap₂ (λ m v. new_rule r.id r.priority m v r.ports r.next) (sym key.1) (sym key.2) in
+    let here : table_of ts t ≡ f c.index_mut.result.now = get_or-map f xs t c.index_mut.result.now [] lt ∙ ap f (sym c.index_mut.ensures.value) in
+    let was : f c.index_mut.result.now ≡ f (get_or xs t c.index_mut.result.now) = ap f c.index_mut.ensures.value in
+    let key = c.in_ok-key.ensures in
+    let e = c.in_err-add.ensures in
+    let is : rule_of r ≡ new_rule r.id r.priority c.in_ok-key.key.mask c.in_ok-key.key.value r.ports r.next = ap₂ (λ m v. new_rule r.id r.priority m v r.ports r.next) (sym key.1) (sym key.2) in
     let asks = ap (λ u. add_refusal (table_of ts u) (rule_of r)) (sym at.1) ∙ ap₂ add_refusal here is in
-    let fine = record_action ts r _ at.0 key.0 c.in-ok-check-action.ensures in
-    let same : map f (set xs t c.add.new.self) ≡ ts = same_set f xs t c.index-mut.result.now _ lt (e.1 ∙ was) in
+    let fine = record_action ts r _ at.0 key.0 c.in_ok-check_action.ensures in
+    let same : map f (set xs t c.add.new.self) ≡ ts = same_set f xs t c.index_mut.result.now _ lt (e.1 ∙ was) in
     record {
       kept = (simp length-set c.requires.0, subst (Forward 0) (sym same) c.requires.1);
       value = rw (p.1, p.2) (add_within ts r _ fine (asks ∙ e.0), same);
@@ -66,18 +65,18 @@ returns g c =
     let f = g.C.Classifier.rules in
     let xs = vec_items c.args.self.now.classifiers in
     let ts = map f xs in
-    let t = c.in-ok-t.t in
-    let at = c.in-ok-t.ensures in
+    let t = c.in_ok-t.t in
+    let at = c.in_ok-t.ensures in
     let lt : t < length xs = omega (arith, at.2, c.requires.0) in
-    let here : table_of ts t ≡ f c.index-mut.result.now = get_or-map f xs t c.index-mut.result.now [] lt ∙ ap f (sym c.index-mut.ensures.value) in
-    let was : f c.index-mut.result.now ≡ f (get_or xs t c.index-mut.result.now) = ap f c.index-mut.ensures.value in
-    let key = c.in-ok-key.ensures in
-    let e = c.in-ok-add.ensures in
-    let is : rule_of r ≡ new_rule r.id r.priority c.in-ok-key.key.mask c.in-ok-key.key.value r.ports r.next = ap₂ (λ m v. new_rule r.id r.priority m v r.ports r.next) (sym key.1) (sym key.2) in
+    let here : table_of ts t ≡ f c.index_mut.result.now = get_or-map f xs t c.index_mut.result.now [] lt ∙ ap f (sym c.index_mut.ensures.value) in
+    let was : f c.index_mut.result.now ≡ f (get_or xs t c.index_mut.result.now) = ap f c.index_mut.ensures.value in
+    let key = c.in_ok-key.ensures in
+    let e = c.in_ok-add.ensures in
+    let is : rule_of r ≡ new_rule r.id r.priority c.in_ok-key.key.mask c.in_ok-key.key.value r.ports r.next = ap₂ (λ m v. new_rule r.id r.priority m v r.ports r.next) (sym key.1) (sym key.2) in
     let asks = ap (λ u. add_refusal (table_of ts u) (rule_of r)) (sym at.1) ∙ ap₂ add_refusal here is in
-    let fine = record_action ts r _ at.0 key.0 c.in-ok-check-action.ensures in
-    let new : map f (set xs t c.add.new.self) ≡ set ts t (added (table_of ts t) (rule_of r)) = change_set f (λ rs. added rs (rule_of r)) xs t c.index-mut.result.now _ lt (e.1 ∙ ap₂ added was (sym is)) in
-    let good : good_next (0 + t) r.next ≡ true = subst (λ u. good_next u r.next ≡ true) (sym at.1 ∙ zero_add_back t) (action_good r.table r.ports r.next c.in-ok-check-action.ensures) in
+    let fine = record_action ts r _ at.0 key.0 c.in_ok-check_action.ensures in
+    let new : map f (set xs t c.add.new.self) ≡ set ts t (added (table_of ts t) (rule_of r)) = change_set f (λ rs. added rs (rule_of r)) xs t c.index_mut.result.now _ lt (e.1 ∙ ap₂ added was (sym is)) in
+    let good : good_next (0 + t) r.next ≡ true = subst (λ u. good_next u r.next ≡ true) (sym at.1 ∙ zero_add_back t) (action_good r.table r.ports r.next c.in_ok-check_action.ensures) in
     record {
       kept = (
         simp length-set c.requires.0,

@@ -1,4 +1,4 @@
-use Rattle.std.proofs.Common.{◌≡◌, ◌<◌, [], map, length, get_or, vec_items, sym, refl, ap, ◌∙◌, arith}
+use Rattle.std.proofs.Common.{◌≡◌, ◌<◌, [], map, length, vec_items, sym, refl, ap, ◌∙◌, arith}
 use Rattle.std.proofs.lemmas.List.{get_or-map}
 use Rattle.std.proofs.lemmas.Result.{err_from_is_err_and}
 use Rattle.classifier.specs.Tables.{missing_refusal, count_of}
@@ -7,20 +7,20 @@ use Rattle.datapath.specs.Walk.{table_of}
 use Rattle.datapath.proofs.CallLaws.{missing_table, missing_within}
 use Rattle.datapath.proofs.tables.TablesLevel.count.Goals as goal
 
-pub returns-in-err-t : goal.returns-in-err-t
-returns-in-err-t g c =
-    let p = err_from_is_err_and c.from-residual.result c.from-residual.ensures.1 in
+pub returns-in_err-t : goal.returns-in_err-t
+returns-in_err-t g c =
+    let p = err_from_is_err_and c.from_residual.result c.from_residual.ensures.1 in
     let ts = map g.C.Classifier.rules (vec_items c.args.self.now.classifiers) in
-    record { kept = c.requires; same = refl; value = rw (p.1, p.2) (missing_table ts c.args.table c.args.id _ c.in-err-t.ensures) }
+    record { kept = c.requires; same = refl; value = rw (p.1, p.2) (missing_table ts c.args.table c.args.id _ c.in_err-t.ensures) }
 
-pub returns-in-err-count : goal.returns-in-err-count
-returns-in-err-count g c =
-    let p = err_from_is_err_and c.from-residual-in-err-count.result c.from-residual-in-err-count.ensures.1 in
+pub returns-in_err-count : goal.returns-in_err-count
+returns-in_err-count g c =
+    let p = err_from_is_err_and c.from_residual-in_err-count.result c.from_residual-in_err-count.ensures.1 in
     let f = g.C.Classifier.rules in
     let xs = vec_items c.args.self.now.classifiers in
     let ts = map f xs in
-    let t = c.in-ok-t.t in
-    let at = c.in-ok-t.ensures in
+    let t = c.in_ok-t.t in
+    let at = c.in_ok-t.ensures in
     let lt : t < length xs = omega (arith, at.2, c.requires.0) in
     let here : table_of ts t ≡ f c.index.result.now = get_or-map f xs t c.index.result.now [] lt ∙ ap f (sym c.index.ensures) in
     record {
@@ -28,7 +28,7 @@ returns-in-err-count g c =
       same = refl;
       value =
           rw (p.1, p.2)
-          (missing_within ts c.args.table c.args.id _ at.0 (ap (λ u. missing_refusal (table_of ts u) c.args.id) (sym at.1) ∙ ap (λ rs. missing_refusal rs c.args.id) here ∙ c.in-err-count.ensures));
+          (missing_within ts c.args.table c.args.id _ at.0 (ap (λ u. missing_refusal (table_of ts u) c.args.id) (sym at.1) ∙ ap (λ rs. missing_refusal rs c.args.id) here ∙ c.in_err-count.ensures));
     }
 
 pub returns : goal.returns
@@ -37,11 +37,11 @@ returns g c =
     let f = g.C.Classifier.rules in
     let xs = vec_items c.args.self.now.classifiers in
     let ts = map f xs in
-    let t = c.in-ok-t.t in
-    let at = c.in-ok-t.ensures in
+    let t = c.in_ok-t.t in
+    let at = c.in_ok-t.ensures in
     let lt : t < length xs = omega (arith, at.2, c.requires.0) in
     let here : table_of ts t ≡ f c.index.result.now = get_or-map f xs t c.index.result.now [] lt ∙ ap f (sym c.index.ensures) in
-    let e = c.in-ok-count.ensures in
+    let e = c.in_ok-count.ensures in
     let i = c.args.id in
     record {
       kept = c.requires;

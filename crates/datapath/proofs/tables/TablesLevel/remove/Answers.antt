@@ -1,5 +1,5 @@
-use Rattle.std.proofs.Common.{◌≡◌, ◌+◌, ◌<◌, [], map, length, get_or, set, vec_items, sym, refl, ap, ◌∙◌, subst, arith, length-set, rules}
-use Rattle.std.proofs.lemmas.List.{get_or-map, map-set, length-map}
+use Rattle.std.proofs.Common.{◌≡◌, ◌+◌, ◌<◌, [], map, length, get_or, set, vec_items, sym, refl, ap, ◌∙◌, subst, arith, length-set}
+use Rattle.std.proofs.lemmas.List.{get_or-map, length-map}
 use Rattle.std.proofs.lemmas.Result.{err_from_is_err_and}
 use Rattle.classifier.specs.Tables.{missing_refusal, removed}
 use Rattle.datapath.specs.Calls.{without_rule}
@@ -9,26 +9,26 @@ use Rattle.datapath.proofs.Forwards.{forward_set, good_removed}
 use Rattle.datapath.proofs.Nexts.{change_set, same_set, forward_at}
 use Rattle.datapath.proofs.tables.TablesLevel.remove.Goals as goal
 
-pub returns-in-err-t : goal.returns-in-err-t
-returns-in-err-t g c =
-    let p = err_from_is_err_and c.from-residual.result c.from-residual.ensures.1 in
+pub returns-in_err-t : goal.returns-in_err-t
+returns-in_err-t g c =
+    let p = err_from_is_err_and c.from_residual.result c.from_residual.ensures.1 in
     let ts = map g.C.Classifier.rules (vec_items c.args.self.now.classifiers) in
-    let e = c.in-err-t.ensures in
+    let e = c.in_err-t.ensures in
     record { kept = c.requires; value = rw (p.1, p.2) (missing_table ts c.args.table c.args.id _ e, refl) }
 
-pub returns-in-err-remove : goal.returns-in-err-remove
-returns-in-err-remove g c =
-    let p = err_from_is_err_and c.from-residual-in-err-remove.result c.from-residual-in-err-remove.ensures.1 in
+pub returns-in_err-remove : goal.returns-in_err-remove
+returns-in_err-remove g c =
+    let p = err_from_is_err_and c.from_residual-in_err-remove.result c.from_residual-in_err-remove.ensures.1 in
     let f = g.C.Classifier.rules in
     let xs = vec_items c.args.self.now.classifiers in
     let ts = map f xs in
-    let t = c.in-ok-t.t in
-    let at = c.in-ok-t.ensures in
+    let t = c.in_ok-t.t in
+    let at = c.in_ok-t.ensures in
     let lt : t < length xs = omega (arith, at.2, c.requires.0) in
-    let here : table_of ts t ≡ f c.index-mut.result.now = get_or-map f xs t c.index-mut.result.now [] lt ∙ ap f (sym c.index-mut.ensures.value) in
-    let was : f c.index-mut.result.now ≡ f (get_or xs t c.index-mut.result.now) = ap f c.index-mut.ensures.value in
-    let e = c.in-err-remove.ensures in
-    let same : map f (set xs t c.remove.new.self) ≡ ts = same_set f xs t c.index-mut.result.now _ lt (e.1 ∙ was) in
+    let here : table_of ts t ≡ f c.index_mut.result.now = get_or-map f xs t c.index_mut.result.now [] lt ∙ ap f (sym c.index_mut.ensures.value) in
+    let was : f c.index_mut.result.now ≡ f (get_or xs t c.index_mut.result.now) = ap f c.index_mut.ensures.value in
+    let e = c.in_err-remove.ensures in
+    let same : map f (set xs t c.remove.new.self) ≡ ts = same_set f xs t c.index_mut.result.now _ lt (e.1 ∙ was) in
     record {
       kept = (simp length-set c.requires.0, subst (Forward 0) (sym same) c.requires.1);
       value =
@@ -42,14 +42,14 @@ returns g c =
     let f = g.C.Classifier.rules in
     let xs = vec_items c.args.self.now.classifiers in
     let ts = map f xs in
-    let t = c.in-ok-t.t in
-    let at = c.in-ok-t.ensures in
+    let t = c.in_ok-t.t in
+    let at = c.in_ok-t.ensures in
     let lt : t < length xs = omega (arith, at.2, c.requires.0) in
-    let here : table_of ts t ≡ f c.index-mut.result.now = get_or-map f xs t c.index-mut.result.now [] lt ∙ ap f (sym c.index-mut.ensures.value) in
-    let was : f c.index-mut.result.now ≡ f (get_or xs t c.index-mut.result.now) = ap f c.index-mut.ensures.value in
-    let e = c.in-ok-remove.ensures in
+    let here : table_of ts t ≡ f c.index_mut.result.now = get_or-map f xs t c.index_mut.result.now [] lt ∙ ap f (sym c.index_mut.ensures.value) in
+    let was : f c.index_mut.result.now ≡ f (get_or xs t c.index_mut.result.now) = ap f c.index_mut.ensures.value in
+    let e = c.in_ok-remove.ensures in
     let i = c.args.id in
-    let new : map f (set xs t c.remove.new.self) ≡ set ts t (removed (table_of ts t) i) = change_set f (λ rs. removed rs i) xs t c.index-mut.result.now _ lt (e.1 ∙ ap (λ rs. removed rs i) was) in
+    let new : map f (set xs t c.remove.new.self) ≡ set ts t (removed (table_of ts t) i) = change_set f (λ rs. removed rs i) xs t c.index_mut.result.now _ lt (e.1 ∙ ap (λ rs. removed rs i) was) in
     record {
       kept = (
         simp length-set c.requires.0,
