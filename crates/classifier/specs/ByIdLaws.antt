@@ -8,7 +8,7 @@ use Rattle.flow.specs.Masks.{union}
 use Rattle.flow.proofs.MaskLaws.{union_comm, union_assoc}
 use Rattle.classifier.specs.declared.rule.Rule.{Rule}
 use Rattle.classifier.specs.Rules.{clashing, bits_of, Rising}
-use Rattle.classifier.specs.Tables.{stands, clash, added, removed, raised, credited, at_id}
+use Rattle.classifier.specs.Tables.{stands, clash, added, removed, raised, credited, at_id, count_of}
 use Rattle.classifier.specs.Stores.{by_id}
 use Rattle.classifier.specs.Inserts.{Pairs, put, length_put, all_put, pairs_put, sorted_put, put_comm}
 
@@ -258,6 +258,18 @@ at_id_place f z (x ∷ xs) zero i q h e d = cond-true (x.id == i) (f x) (at_id f
 at_id_place f z (x ∷ xs) (suc p) i q h e d =
     cond-false (x.id == i) (f x) (at_id f z xs i) (ne_eqb x.id i (λ u. All-get_or (Other x) xs p d (omega arith) q.0 (u ∙ sym (e d))))
     ∙ at_id_place f z xs p i q.1 (omega arith) e d
+
+-- the same of counts
+
+pub count_of_added : (rs : List Rule) (r : Rule) (i : ℕ) → stands rs r.id ≡ false → count_of (added rs r) i ≡ cond (r.id == i) r.count (count_of rs i)
+count_of_added rs r i h = at_id_added (λ s. s.count) 0 rs r i h
+
+pub count_of_by_id : (xs : List Rule) (i : ℕ) → Pairs Other xs → count_of (by_id xs) i ≡ count_of xs i
+count_of_by_id xs i h = at_id_by_id (λ s. s.count) 0 xs i h
+
+-- the count at the place that alone has the id
+pub count_at : (xs : List Rule) (p i : ℕ) → Pairs Other xs → p < length xs → ((d : Rule) → (get_or xs p d).id ≡ i) → (d : Rule) → count_of xs i ≡ (get_or xs p d).count
+count_at xs p i q h e d = at_id_place (λ s. s.count) 0 xs p i q h e d
 
 -- bits ----------------------------------------------------------------------------------------------------
 

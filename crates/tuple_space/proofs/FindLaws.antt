@@ -1,20 +1,17 @@
 -- What a visit of the tuples of a table's rules finds, and its mask.
-use Rattle.std.proofs.Common.{◌≡◌, ℕ, suc, ◌≤◌, Bool, true, false, cond, not, ◌&&◌, ◌||◌, ltb, List, [], ◌∷◌, ◌++◌, length, Some, None, Option, sym, refl, ap, ◌∙◌, subst, ap₂}
+use Rattle.std.proofs.Common.{◌≡◌, ℕ, Bool, true, false, cond, ltb, List, [], ◌∷◌, length, Some, None, Option, sym, refl, ap, ◌∙◌, subst, ap₂}
 use Rattle.std.specs.Option.{option_map}
-use Rattle.std.specs.List.{AllByRecursion as All}
-use Rattle.std.proofs.lemmas.Bool.{cond_both}
 use Rattle.std.proofs.ByRecursion.{All-weaker}
-use Rattle.flow.specs.Masks.{Agree, Within, union, empty_mask}
+use Rattle.flow.specs.Masks.{Within, union, empty_mask}
 use Rattle.flow.proofs.WholeLaws.{empty_union}
 use Rattle.classifier.specs.declared.rule.Rule.{Rule}
-use Rattle.classifier.specs.declared.element.Found.{Found}
 use Rattle.classifier.specs.Found.{found_of}
 use Rattle.classifier.specs.Rules.{best, named, found, bits_of, Adequate, FindMask, Lawful}
 use Rattle.classifier.specs.BestLaws.{pairs_from_apart}
 use Rattle.tuple_space.specs.declared.ranked_mask.RankedMask.{RankedMask}
 use Rattle.tuple_space.specs.Tuples.{worn, masks_of, TuplesOf}
-use Rattle.tuple_space.specs.Visits.{having, searched, above, better, outcome, visited, joined, ordered, visit_order, tuple_mask}
-use Rattle.tuple_space.proofs.Outcomes.{InOrder, outcome_best, outcome_alike, joined_within, joined_long, bits_long, worn_within, worn_long}
+use Rattle.tuple_space.specs.Visits.{having, searched, above, better, outcome, visited, joined, ordered, tuple_mask}
+use Rattle.tuple_space.proofs.Outcomes.{outcome_best, outcome_alike, joined_within, joined_long, bits_long, worn_within, worn_long}
 use Rattle.tuple_space.proofs.SearchLaws.{found_priority}
 use Rattle.tuple_space.proofs.OrderLaws.{all_ordered, visit_order_is, in_order, all_listed, each_worn_tuple}
 

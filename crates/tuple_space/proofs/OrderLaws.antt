@@ -1,8 +1,8 @@
 -- The order of visits, and how many tuples there are.
-use Rattle.std.proofs.Common.{◌≡◌, ℕ, zero, suc, ◌+◌, ◌<◌, ◌≤◌, Bool, true, false, cond, not, ◌&&◌, ◌||◌, eqb, ltb, ◌⊎◌, List, [], ◌∷◌, ◌++◌, map, length, filter, sym, refl, ap, ◌∙◌, subst, ap₂, inl, inr, ⊎_elim, arith}
-use Rattle.std.specs.List.{ContainsAt as Has, AllByRecursion as All}
+use Rattle.std.proofs.Common.{◌≡◌, ℕ, suc, ◌+◌, ◌<◌, ◌≤◌, Bool, true, false, not, ◌&&◌, ◌||◌, eqb, ltb, ◌⊎◌, List, [], ◌∷◌, map, length, filter, sym, refl, ap, ◌∙◌, subst, ap₂, inl, inr, ⊎_elim, arith}
+use Rattle.std.specs.List.{ContainsAt, AllByRecursion}
 use Rattle.std.specs.Str.{bytes_eq}
-use Rattle.std.proofs.lemmas.Bool.{cond_both, cond-true, cond-false, cases_Bool, both_ways, and_parts, and_from, or_left, or_right, or_cases, or_parts, or_from, true≢false, not_from_true, not_from_false, not-true, not-false, ltb-true, ltb-false, eqb-true, eq-eqb}
+use Rattle.std.proofs.lemmas.Bool.{cond_both, cond-true, cases_Bool, both_ways, and_parts, and_from, or_cases, or_parts, or_from, true≢false, not_from_false, not-true, not-false, ltb-true, ltb-false, eqb-true, eq-eqb}
 use Rattle.std.proofs.ByRecursion.{All-weaker, all-has, all_kept_by, kept_by_passes}
 use Rattle.std.proofs.lemmas.Slice.Eq.{bytes_eq-Decides}
 use Rattle.classifier.specs.declared.rule.Rule.{Rule}
@@ -16,11 +16,11 @@ use Rattle.tuple_space.proofs.TupleLaws.{each_listed, each_ranked, apart, rest_d
 
 -- a tuple in its place --------------------------------------------------------------------------------------------
 
-pub all_placed : (P : RankedMask → Type 0) (us : List RankedMask) (t : RankedMask) → All P us → P t → All P (placed us t)
+pub all_placed : (P : RankedMask → Type 0) (us : List RankedMask) (t : RankedMask) → AllByRecursion P us → P t → AllByRecursion P (placed us t)
 unfolding placed
 all_placed P [] t h p = (p, tt)
 all_placed P (u ∷ us) t h p =
-    cond_both (ltb u.rank t.rank) (t ∷ u ∷ us) (u ∷ placed us t) (All P) (λ _. (p, h)) (λ _. (h.0, all_placed P us t h.1 p))
+    cond_both (ltb u.rank t.rank) (t ∷ u ∷ us) (u ∷ placed us t) (AllByRecursion P) (λ _. (p, h)) (λ _. (h.0, all_placed P us t h.1 p))
 
 pub length_placed : (us : List RankedMask) (t : RankedMask) → length (placed us t) ≡ suc (length us)
 unfolding placed
@@ -56,7 +56,7 @@ listed_placed (u ∷ us) t m =
 
 -- all in their places -----------------------------------------------------------------------------------------------
 
-pub all_ordered : (P : RankedMask → Type 0) (us ts : List RankedMask) → All P us → All P ts → All P (ordered us ts)
+pub all_ordered : (P : RankedMask → Type 0) (us ts : List RankedMask) → AllByRecursion P us → AllByRecursion P ts → AllByRecursion P (ordered us ts)
 unfolding ordered
 all_ordered P us [] h k = h
 all_ordered P us (t ∷ ts) h k = all_ordered P (placed us t) ts (all_placed P us t h k.0) k.1
@@ -94,18 +94,18 @@ listed_in_order ts m = listed_ordered [] ts m ∙ or_none (listed ts m)
 
 -- the tuples of some rules, in the order of visits --------------------------------------------------------------------
 
-pub each_rank : (rs : List Rule) (ts : List RankedMask) → TuplesOf rs ts → All (λ t. rank_of rs t.mask ≡ t.rank) ts
+pub each_rank : (rs : List Rule) (ts : List RankedMask) → TuplesOf rs ts → AllByRecursion (λ t. rank_of rs t.mask ≡ t.rank) ts
 each_rank rs ts k =
     All-weaker (λ t. rank_in ts t.mask ≡ t.rank) (λ t. rank_of rs t.mask ≡ t.rank) (λ t e. sym (k.ranks t.mask) ∙ e) ts (each_ranked ts k.once)
 
-pub each_worn_tuple : (rs : List Rule) (ts : List RankedMask) → TuplesOf rs ts → All (λ t. worn rs t.mask ≡ true) ts
+pub each_worn_tuple : (rs : List Rule) (ts : List RankedMask) → TuplesOf rs ts → AllByRecursion (λ t. worn rs t.mask ≡ true) ts
 each_worn_tuple rs ts k =
     All-weaker (λ t. listed ts t.mask ≡ true) (λ t. worn rs t.mask ≡ true) (λ t e. sym (k.masks t.mask) ∙ e) ts (each_listed ts)
 
 pub visit_order_is : (rs : List Rule) (ts : List RankedMask) → TuplesOf rs ts → visit_order rs (masks_of ts) ≡ ordered [] ts
 visit_order_is rs ts k = ap (ordered []) (whole ts (each_rank rs ts k))
   where
-    whole : (us : List RankedMask) → All (λ t. rank_of rs t.mask ≡ t.rank) us → map (tuple_of rs) (masks_of us) ≡ us
+    whole : (us : List RankedMask) → AllByRecursion (λ t. rank_of rs t.mask ≡ t.rank) us → map (tuple_of rs) (masks_of us) ≡ us
     whole [] h = refl
     whole (u ∷ us) h = ap₂ (λ n ys. record { mask = u.mask; rank = n } ∷ ys) h.0 (whole us h.1)
 
@@ -113,12 +113,12 @@ pub in_order : (rs : List Rule) (ts : List RankedMask) → TuplesOf rs ts → In
 in_order rs ts k =
     record {
       falling = falling_ordered [] ts tt;
-      bound = all_ordered (λ t. (r : Rule) → Has rs r → bytes_eq r.mask t.mask ≡ true → r.priority ≤ t.rank) [] ts tt
-          (All-weaker (λ t. rank_of rs t.mask ≡ t.rank) (λ t. (r : Rule) → Has rs r → bytes_eq r.mask t.mask ≡ true → r.priority ≤ t.rank)
+      bound = all_ordered (λ t. (r : Rule) → ContainsAt rs r → bytes_eq r.mask t.mask ≡ true → r.priority ≤ t.rank) [] ts tt
+          (All-weaker (λ t. rank_of rs t.mask ≡ t.rank) (λ t. (r : Rule) → ContainsAt rs r → bytes_eq r.mask t.mask ≡ true → r.priority ≤ t.rank)
           (λ t e r h s. subst (λ n. r.priority ≤ n) e (all-has (λ r. bytes_eq r.mask t.mask ≡ true → r.priority ≤ rank_of rs t.mask) rs r (each_below rs t.mask) h s)) ts (each_rank rs ts k));
     }
 
-pub all_listed : (rs : List Rule) (ts : List RankedMask) → TuplesOf rs ts → (r : Rule) → Has rs r → listed (ordered [] ts) r.mask ≡ true
+pub all_listed : (rs : List Rule) (ts : List RankedMask) → TuplesOf rs ts → (r : Rule) → ContainsAt rs r → listed (ordered [] ts) r.mask ≡ true
 all_listed rs ts k r h = listed_in_order ts r.mask ∙ k.masks r.mask ∙ all-has (λ r. worn rs r.mask ≡ true) rs r (each_worn rs) h
 
 -- two lists that pass the test are the same -----------------------------------------------------------------------------
@@ -164,7 +164,7 @@ one_less (t ∷ ts) m d =
     same : length (others ts m) ≡ length ts → suc (length ts) ≤ suc (length (others ts m))
     same e = omega arith
 
-    whole : bytes_eq t.mask m ≡ true → (us : List RankedMask) → All (λ u. listed ts u.mask ≡ true) us → others us m ≡ us
+    whole : bytes_eq t.mask m ≡ true → (us : List RankedMask) → AllByRecursion (λ u. listed ts u.mask ≡ true) us → others us m ≡ us
     whole e [] h = refl
     whole e (u ∷ us) h =
         cond-true (not (bytes_eq u.mask m)) (u ∷ others us m) (others us m) (not_from_false (bytes_eq u.mask m) (differ (cases_Bool (bytes_eq u.mask m)))) ∙ ap (λ ys. u ∷ ys) (whole e us h.1)
@@ -191,7 +191,7 @@ distinct_kept p (t ∷ ts) d =
     (λ _. and_from (not (listed (filter p ts) t.mask)) (distinct (filter p ts)) (not_from_false (listed (filter p ts) t.mask) (unlisted_kept p ts t.mask (not-true (listed ts t.mask) q.0))) (distinct_kept p ts q.1))
     (λ _. distinct_kept p ts q.1)
 
-pub few_tuples : (rs : List Rule) (ts : List RankedMask) → distinct ts ≡ true → All (λ t. worn rs t.mask ≡ true) ts → length ts ≤ length rs
+pub few_tuples : (rs : List Rule) (ts : List RankedMask) → distinct ts ≡ true → AllByRecursion (λ t. worn rs t.mask ≡ true) ts → length ts ≤ length rs
 unfolding worn
 few_tuples [] [] d h = omega arith
 few_tuples [] (t ∷ ts) d h = absurd (true≢false (sym h.0))

@@ -1,14 +1,14 @@
 -- A visit in the order of falling rank finds the best rule of the table, and its mask tells enough.
-use Rattle.std.proofs.Common.{◌≡◌, ℕ, ◌<◌, ◌≤◌, Bool, true, false, cond, ◌||◌, ltb, ◌⊎◌, List, [], ◌∷◌, map, length, Some, None, filter, Option, sym, refl, ap, ◌∙◌, subst, ap₂, inl, inr, ⊎_elim, arith}
+use Rattle.std.proofs.Common.{◌≡◌, ℕ, ◌≤◌, true, false, cond, ltb, ◌⊎◌, List, [], ◌∷◌, length, Some, None, Option, sym, refl, ap, ◌∙◌, subst, ap₂, inl, inr, ⊎_elim, arith}
 use Rattle.std.specs.Option.{option_map}
-use Rattle.std.specs.List.{ContainsAt as Has, AllByRecursion as All}
+use Rattle.std.specs.List.{ContainsAt, AllByRecursion}
 use Rattle.std.specs.Str.{bytes_eq}
-use Rattle.std.proofs.lemmas.Bool.{cond_both, cond-true, cond-false, cases_Bool, both_ways, ltb-true, ltb-false, or_from, or_parts, or_cases, true≢false}
-use Rattle.std.proofs.ByRecursion.{All-weaker, all-has, all_kept_by, kept_by_passes}
+use Rattle.std.proofs.lemmas.Bool.{cond_both, cond-true, cond-false, cases_Bool, both_ways, ltb-false, or_from, or_cases, true≢false}
+use Rattle.std.proofs.ByRecursion.{All-weaker, kept_by_passes}
 use Rattle.std.proofs.lemmas.Slice.Eq.{bytes_eq-Decides}
-use Rattle.flow.specs.Masks.{Agree, Within, union, empty_mask}
+use Rattle.flow.specs.Masks.{Agree, Within, union}
 use Rattle.flow.proofs.MaskLaws.{agree_left, agree_right, within_left, within_right, within_trans, within_union, length_union}
-use Rattle.flow.proofs.WholeLaws.{within_empty, empty_bytes, empty_union}
+use Rattle.flow.proofs.WholeLaws.{within_empty, empty_bytes}
 use Rattle.classifier.specs.declared.rule.Rule.{Rule}
 use Rattle.classifier.specs.Rules.{best, matches, higher, bits_of, SoundRule}
 use Rattle.classifier.specs.Inserts.{Pairs}
@@ -28,10 +28,10 @@ Seen ts r = listed ts r.mask ≡ false
 -- the tuples in the order of visits: by falling rank, and no rule's priority is above the rank of its mask
 pub record InOrder (rs : List Rule) (ts : List RankedMask) : Type 0 where
   pub falling : Pairs (λ t u. u.rank ≤ t.rank) ts
-  pub bound : All (λ t. (r : Rule) → Has rs r → bytes_eq r.mask t.mask ≡ true → r.priority ≤ t.rank) ts
+  pub bound : AllByRecursion (λ t. (r : Rule) → ContainsAt rs r → bytes_eq r.mask t.mask ≡ true → r.priority ≤ t.rank) ts
 
 -- a rule whose mask is among the tuples is not above the first of them
-below_first : (r : Rule) (n : ℕ) (ts : List RankedMask) → All (λ u. u.rank ≤ n) ts → All (λ t. bytes_eq r.mask t.mask ≡ true → r.priority ≤ t.rank) ts → listed ts r.mask ≡ true → r.priority ≤ n
+below_first : (r : Rule) (n : ℕ) (ts : List RankedMask) → AllByRecursion (λ u. u.rank ≤ n) ts → AllByRecursion (λ t. bytes_eq r.mask t.mask ≡ true → r.priority ≤ t.rank) ts → listed ts r.mask ≡ true → r.priority ≤ n
 unfolding listed
 below_first r n [] f b e = absurd (true≢false (sym e))
 below_first r n (t ∷ ts) f b e =
@@ -47,7 +47,7 @@ stop rs k (Some b) t ts i e s = (
   s.0,
   s.1,
   λ r h _ m. ⊎_elim
-      (λ l. low r (below_first r t.rank (t ∷ ts) (omega arith, i.falling.0) (All-weaker (λ t. (r : Rule) → Has rs r → bytes_eq r.mask t.mask ≡ true → r.priority ≤ t.rank) (λ t. bytes_eq r.mask t.mask ≡ true → r.priority ≤ t.rank) (λ t f. f r h) (t ∷ ts) i.bound) l) (ltb-false b.priority t.rank e))
+      (λ l. low r (below_first r t.rank (t ∷ ts) (omega arith, i.falling.0) (All-weaker (λ t. (r : Rule) → ContainsAt rs r → bytes_eq r.mask t.mask ≡ true → r.priority ≤ t.rank) (λ t. bytes_eq r.mask t.mask ≡ true → r.priority ≤ t.rank) (λ t f. f r h) (t ∷ ts) i.bound) l) (ltb-false b.priority t.rank e))
       (λ l. s.2 r h l m) (cases_Bool (listed (t ∷ ts) r.mask)),
 )
   where
@@ -75,12 +75,12 @@ outcome_tops rs k o (t ∷ ts) u i s =
     (λ e. tops_best rs k o u (stop rs k o t ts i e s))
 
 -- from nothing, where the tuples have all masks
-pub outcome_best : (rs : List Rule) (k : List ℕ) (ts : List RankedMask) → Pairs Untied rs → InOrder rs ts → ((r : Rule) → Has rs r → listed ts r.mask ≡ true) → outcome (λ r. r.priority) (λ m. best (having rs m) k) None ts ≡ best rs k
+pub outcome_best : (rs : List Rule) (k : List ℕ) (ts : List RankedMask) → Pairs Untied rs → InOrder rs ts → ((r : Rule) → ContainsAt rs r → listed ts r.mask ≡ true) → outcome (λ r. r.priority) (λ m. best (having rs m) k) None ts ≡ best rs k
 outcome_best rs k ts u i w = outcome_tops rs k None ts u i (λ r h s. absurd (both_ways (listed ts r.mask) s (w r h)))
 
 -- the mask ---------------------------------------------------------------------------------------------------------
 
-pub best_alike : (rs : List Rule) (k q : List ℕ) → All (λ r. matches r q ≡ matches r k) rs → best rs q ≡ best rs k
+pub best_alike : (rs : List Rule) (k q : List ℕ) → AllByRecursion (λ r. matches r q ≡ matches r k) rs → best rs q ≡ best rs k
 unfolding best
 best_alike [] k q h = refl
 best_alike (r ∷ rs) k q h = ap₂ (λ b o. cond b (higher r o) o) h.0 (best_alike rs k q h.1)
@@ -114,21 +114,21 @@ outcome_alike rs k q o (t ∷ ts) a =
     (λ e. cond-false (above t.rank (option_map (λ r. r.priority) o)) _ o e ∙ sym (cond-false (above t.rank (option_map (λ r. r.priority) o)) _ o e))
     (cases_Bool (above t.rank (option_map (λ r. r.priority) o)))
 
-pub joined_within : (rs : List Rule) (k b : List ℕ) (p : Option ℕ) (ts : List RankedMask) → length b ≡ 36 → All (λ t. Within t.mask b) ts → Within (joined (visited rs k p ts)) b
+pub joined_within : (rs : List Rule) (k b : List ℕ) (p : Option ℕ) (ts : List RankedMask) → length b ≡ 36 → AllByRecursion (λ t. Within t.mask b) ts → Within (joined (visited rs k p ts)) b
 unfolding visited joined
 joined_within rs k b p [] l h = within_empty b l
 joined_within rs k b p (t ∷ ts) l h =
     cond_both (above t.rank p) (t.mask ∷ visited rs k (topmost p (priority_in rs t.mask k)) ts) [] (λ ms. Within (joined ms) b)
     (λ _. within_union t.mask (joined (visited rs k (topmost p (priority_in rs t.mask k)) ts)) b h.0 (joined_within rs k b (topmost p (priority_in rs t.mask k)) ts l h.1)) (λ _. within_empty b l)
 
-pub joined_long : (rs : List Rule) (k : List ℕ) (p : Option ℕ) (ts : List RankedMask) → All (λ t. length t.mask ≡ 36) ts → length (joined (visited rs k p ts)) ≡ 36
+pub joined_long : (rs : List Rule) (k : List ℕ) (p : Option ℕ) (ts : List RankedMask) → AllByRecursion (λ t. length t.mask ≡ 36) ts → length (joined (visited rs k p ts)) ≡ 36
 unfolding visited joined
 joined_long rs k p [] h = empty_bytes.long
 joined_long rs k p (t ∷ ts) h =
     cond_both (above t.rank p) (t.mask ∷ visited rs k (topmost p (priority_in rs t.mask k)) ts) [] (λ ms. length (joined ms) ≡ 36)
     (λ _. length_union 36 t.mask (joined (visited rs k (topmost p (priority_in rs t.mask k)) ts)) h.0 (joined_long rs k (topmost p (priority_in rs t.mask k)) ts h.1)) (λ _. empty_bytes.long)
 
-pub bits_long : (rs : List Rule) → All SoundRule rs → length (bits_of rs) ≡ 36
+pub bits_long : (rs : List Rule) → AllByRecursion SoundRule rs → length (bits_of rs) ≡ 36
 unfolding bits_of
 bits_long [] h = empty_bytes.long
 bits_long (r ∷ rs) h = length_union 36 r.mask (bits_of rs) h.0.mask_bytes.long (bits_long rs h.1)
@@ -141,7 +141,7 @@ worn_within (r ∷ rs) m e =
     (λ s. within_trans m (bits_of rs) (union r.mask (bits_of rs)) (worn_within rs m s) (within_right r.mask (bits_of rs)))
     (or_cases (bytes_eq r.mask m) (worn rs m) e)
 
-pub worn_long : (rs : List Rule) (m : List ℕ) → All SoundRule rs → worn rs m ≡ true → length m ≡ 36
+pub worn_long : (rs : List Rule) (m : List ℕ) → AllByRecursion SoundRule rs → worn rs m ≡ true → length m ≡ 36
 unfolding worn
 worn_long [] m h e = absurd (true≢false (sym e))
 worn_long (r ∷ rs) m h e =

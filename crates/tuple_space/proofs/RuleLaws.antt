@@ -1,9 +1,9 @@
 -- The masks and ranks of some rules, after the rules changed.
-use Rattle.std.proofs.Common.{◌≡◌, ℕ, ◌<◌, ◌≤◌, Bool, true, false, cond, not, ◌&&◌, ◌||◌, eqb, ltb, ◌⊎◌, List, [], ◌∷◌, map, length, Some, None, filter, Option, sym, refl, ap, ◌∙◌, subst, ap₂, inl, inr, ⊎_elim, arith}
-use Rattle.std.specs.List.{ContainsAt as Has, AllByRecursion as All}
+use Rattle.std.proofs.Common.{◌≡◌, ℕ, ◌<◌, ◌≤◌, Bool, true, false, cond, not, ◌||◌, eqb, ltb, List, [], ◌∷◌, Some, None, Option, sym, refl, ap, ◌∙◌, subst, ap₂, ⊎_elim, arith}
+use Rattle.std.specs.List.{AllByRecursion}
 use Rattle.std.specs.Str.{bytes_eq}
-use Rattle.std.proofs.lemmas.Bool.{cond_both, cond-true, cond-false, cases_Bool, both_ways, ltb-true, ltb-false, le-ltb, lt-ltb, eqb-true, eqb-false, eq-eqb, ne_eqb, or_left, or_right, true≢false, not_from_true, not_from_false}
-use Rattle.std.proofs.ByRecursion.{All-weaker, all-has}
+use Rattle.std.proofs.lemmas.Bool.{cond_both, cond-true, cond-false, cases_Bool, both_ways, ltb-true, ltb-false, le-ltb, lt-ltb, eqb-true, or_left, or_right, not_from_true, not_from_false}
+use Rattle.std.proofs.ByRecursion.{All-weaker}
 use Rattle.std.proofs.lemmas.Slice.Eq.{bytes_eq-Decides}
 use Rattle.classifier.specs.declared.rule.Rule.{Rule}
 use Rattle.classifier.specs.Rules.{Rising}
@@ -116,7 +116,7 @@ rank_credited (r ∷ rs) i n m =
 
 -- each rule --------------------------------------------------------------------------------------------------------
 
-pub each_worn : (rs : List Rule) → All (λ r. worn rs r.mask ≡ true) rs
+pub each_worn : (rs : List Rule) → AllByRecursion (λ r. worn rs r.mask ≡ true) rs
 unfolding worn
 each_worn [] = tt
 each_worn (r ∷ rs) = (
@@ -124,11 +124,11 @@ each_worn (r ∷ rs) = (
   All-weaker (λ s. worn rs s.mask ≡ true) (λ s. worn (r ∷ rs) s.mask ≡ true) (λ s e. or_right (bytes_eq r.mask s.mask) (worn rs s.mask) e) rs (each_worn rs),
 )
 
-pub each_below : (rs : List Rule) (m : List ℕ) → All (λ r. bytes_eq r.mask m ≡ true → r.priority ≤ rank_of rs m) rs
+pub each_below : (rs : List Rule) (m : List ℕ) → AllByRecursion (λ r. bytes_eq r.mask m ≡ true → r.priority ≤ rank_of rs m) rs
 unfolding rank_of
 each_below [] m = tt
 each_below (r ∷ rs) m =
-    cond_both (bytes_eq r.mask m) (larger r.priority (rank_of rs m)) (rank_of rs m) (λ n. (bytes_eq r.mask m ≡ true → r.priority ≤ n) × All (λ s. bytes_eq s.mask m ≡ true → s.priority ≤ n) rs)
+    cond_both (bytes_eq r.mask m) (larger r.priority (rank_of rs m)) (rank_of rs m) (λ n. (bytes_eq r.mask m ≡ true → r.priority ≤ n) × AllByRecursion (λ s. bytes_eq s.mask m ≡ true → s.priority ≤ n) rs)
     (λ e. (
       (λ _. larger_left r.priority (rank_of rs m)),
       All-weaker (λ s. bytes_eq s.mask m ≡ true → s.priority ≤ rank_of rs m) (λ s. bytes_eq s.mask m ≡ true → s.priority ≤ larger r.priority (rank_of rs m))
@@ -146,7 +146,7 @@ Filled None = ⊥
 Filled (Some x) = Unit {0}
 
 -- a rule that an id names is one of the rules
-pub named_has : (P : Rule → Type 0) (rs : List Rule) (i : ℕ) (out : Rule) → of_id rs i ≡ Some out → All P rs → P out × (out.id ≡ i)
+pub named_has : (P : Rule → Type 0) (rs : List Rule) (i : ℕ) (out : Rule) → of_id rs i ≡ Some out → AllByRecursion P rs → P out × (out.id ≡ i)
 unfolding at_id
 named_has P [] i out e h = absurd (subst Filled (sym e) tt)
 named_has P (r ∷ rs) i out e h =
@@ -180,7 +180,7 @@ removed_back (r ∷ rs) i out h e =
     rest : eqb r.id i ≡ false → of_id rs i ≡ Some out
     rest f = sym (cond-false (eqb r.id i) (Some r) (of_id rs i) f) ∙ e
 
-    front : (ys : List Rule) (s : Rule) → All (λ y. s.id < y.id) ys → added ys s ≡ s ∷ ys
+    front : (ys : List Rule) (s : Rule) → AllByRecursion (λ y. s.id < y.id) ys → added ys s ≡ s ∷ ys
     front [] s g = refl
     front (y ∷ ys) s g = cond-true (ltb s.id y.id) (s ∷ y ∷ ys) (y ∷ added ys s) (lt-ltb s.id y.id g.0)
 

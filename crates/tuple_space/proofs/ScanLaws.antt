@@ -1,6 +1,6 @@
 -- The steps of searches through tuples.
-use Rattle.std.proofs.Common.{◌≡◌, ℕ, ◌+◌, ◌<◌, ◌≤◌, Bool, true, false, cond, ◌||◌, ltb, List, [], ◌∷◌, length, get_or, take, drop, Decides, sym, refl, ap, ◌∙◌, subst, ⊎_elim, arith}
-use Rattle.std.specs.List.{insert, AllByRecursion as All}
+use Rattle.std.proofs.Common.{◌≡◌, ℕ, ◌+◌, ◌<◌, ◌≤◌, Bool, false, cond, ◌||◌, ltb, List, [], ◌∷◌, length, get_or, take, drop, Decides, sym, refl, ap, ◌∙◌, subst, ⊎_elim, arith}
+use Rattle.std.specs.List.{insert, AllByRecursion}
 use Rattle.std.specs.Str.{bytes_eq}
 use Rattle.std.proofs.lemmas.List.{get_or_default, at_drop_more, at_drop_all, take_all}
 use Rattle.std.proofs.ByRecursion.{All-weaker}
@@ -28,7 +28,7 @@ unfolding placed
 placed_put [] t = refl
 placed_put (u ∷ us) t = ap (λ ys. cond (ltb u.rank t.rank) (t ∷ u ∷ us) (u ∷ ys)) (placed_put us t)
 
-pub inserted_placed : (us : List RankedMask) (i n : ℕ) (d : RankedMask) → i < length us → All (λ u. n ≤ u.rank) (take i us) → (get_or us i d).rank < n → (t : RankedMask) → t.rank ≡ n → insert us i t ≡ placed us t
+pub inserted_placed : (us : List RankedMask) (i n : ℕ) (d : RankedMask) → i < length us → AllByRecursion (λ u. n ≤ u.rank) (take i us) → (get_or us i d).rank < n → (t : RankedMask) → t.rank ≡ n → insert us i t ≡ placed us t
 inserted_placed us i n d l h a t e =
     inserted_put ahead us i t l (All-weaker (λ u. n ≤ u.rank) (λ u. ahead t u ≡ false) (λ u p. le-ltb u.rank t.rank (low u p)) (take i us) h)
     (λ f. lt-ltb (get_or us i f).rank t.rank (subst (λ u. u.rank < t.rank) (get_or_default us i d f l) (subst (λ x. (get_or us i d).rank < x) (sym e) a)))
@@ -37,9 +37,9 @@ inserted_placed us i n d l h a t e =
     low : (u : RankedMask) → n ≤ u.rank → t.rank ≤ u.rank
     low u p = omega arith
 
-pub inserted_placed_last : (us : List RankedMask) (i n : ℕ) → length us ≤ i → All (λ u. n ≤ u.rank) (take i us) → (t : RankedMask) → t.rank ≡ n → insert us (length us) t ≡ placed us t
+pub inserted_placed_last : (us : List RankedMask) (i n : ℕ) → length us ≤ i → AllByRecursion (λ u. n ≤ u.rank) (take i us) → (t : RankedMask) → t.rank ≡ n → insert us (length us) t ≡ placed us t
 inserted_placed_last us i n l h t e =
-    inserted_last ahead us t (All-weaker (λ u. n ≤ u.rank) (λ u. ahead t u ≡ false) (λ u p. le-ltb u.rank t.rank (low u p)) us (subst (All (λ u. n ≤ u.rank)) (take_all i us l) h)) ∙ sym (placed_put us t)
+    inserted_last ahead us t (All-weaker (λ u. n ≤ u.rank) (λ u. ahead t u ≡ false) (λ u p. le-ltb u.rank t.rank (low u p)) us (subst (AllByRecursion (λ u. n ≤ u.rank)) (take_all i us l) h)) ∙ sym (placed_put us t)
   where
     low : (u : RankedMask) → n ≤ u.rank → t.rank ≤ u.rank
     low u p = omega arith

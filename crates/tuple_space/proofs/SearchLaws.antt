@@ -1,13 +1,12 @@
 -- The search of a tuple among the slots finds the best of the rules that have its mask.
-use Rattle.std.proofs.Common.{◌≡◌, ℕ, ◌+◌, ◌<◌, ◌≤◌, Bool, true, false, cond, ◌&&◌, ◌⊎◌, List, [], ◌∷◌, length, get_or, drop, Some, None, filter, Option, sym, refl, ap, ◌∙◌, subst, ap₂, ⊎_elim}
+use Rattle.std.proofs.Common.{◌≡◌, ℕ, ◌+◌, ◌<◌, ◌≤◌, Bool, true, false, cond, ◌&&◌, List, [], ◌∷◌, length, get_or, drop, Some, None, Option, sym, refl, ap, ◌∙◌, ap₂, ⊎_elim}
 use Rattle.std.specs.Option.{option_map}
-use Rattle.std.specs.List.{AllByRecursion as All}
+use Rattle.std.specs.List.{AllByRecursion}
 use Rattle.std.specs.Str.{bytes_eq}
 use Rattle.std.proofs.lemmas.List.{at_drop_more, at_drop_all}
 use Rattle.std.proofs.lemmas.Bool.{cond-true, cond-false, cases_Bool, and_parts}
-use Rattle.std.proofs.ByRecursion.{All-weaker}
 use Rattle.std.proofs.lemmas.Slice.Eq.{bytes_eq-Decides}
-use Rattle.flow.specs.Masks.{covered, union, empty_mask}
+use Rattle.flow.specs.Masks.{covered, union}
 use Rattle.flow.proofs.MaskLaws.{union_assoc}
 use Rattle.flow.proofs.WholeLaws.{union_empty}
 use Rattle.search.specs.Best as tuple
@@ -49,7 +48,7 @@ higher_is : (r : Rule) (o : Option Rule) → tuple.higher (λ s. s.priority) r o
 higher_is r None = refl
 higher_is r (Some s) = refl
 
-best_by_added : (m k : List ℕ) (rs : List Rule) (r : Rule) → All (Untied r) rs → best_by (fits m k) (added rs r) ≡ cond (fits m k r) (higher r (best_by (fits m k) rs)) (best_by (fits m k) rs)
+best_by_added : (m k : List ℕ) (rs : List Rule) (r : Rule) → AllByRecursion (Untied r) rs → best_by (fits m k) (added rs r) ≡ cond (fits m k r) (higher r (best_by (fits m k) rs)) (best_by (fits m k) rs)
 unfolding tuple.best added
 best_by_added m k [] r h = ap (λ x. cond (fits m k r) x None) (higher_is r None)
 best_by_added m k (s ∷ rs) r h =

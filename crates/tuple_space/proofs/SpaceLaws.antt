@@ -1,17 +1,14 @@
 -- What a tuple-space classifier's parts say of one another, kept by its calls.
-use Rattle.std.proofs.Common.{◌≡◌, ℕ, ◌<◌, ◌≤◌, true, cond, List, [], length, Some, None, vec_items, sym, refl, ap, ◌∙◌, subst, ap₂, arith}
+use Rattle.std.proofs.Common.{◌≡◌, ℕ, ◌<◌, ◌≤◌, true, cond, List, length, Some, None, vec_items, sym, ap, ◌∙◌, subst, ap₂, arith}
 use Rattle.classifier.specs.declared.rule.Rule.{Rule}
-use Rattle.classifier.specs.declared.store.Store.{Store}
-use Rattle.classifier.specs.Kept.{kept}
-use Rattle.classifier.specs.Rules.{Lawful}
 use Rattle.classifier.specs.Stores.{by_id}
-use Rattle.classifier.specs.Tables.{add_refusal, added, removed, of_id}
+use Rattle.classifier.specs.Tables.{add_refusal, removed, of_id}
 use Rattle.classifier.specs.KeptLaws.{lawful_kept}
-use Rattle.classifier.specs.LawsLemmas.{Admitted, admitted}
+use Rattle.classifier.specs.LawsLemmas.{admitted}
 use Rattle.tuple_space.specs.declared.ranked_mask.RankedMask.{RankedMask}
 use Rattle.tuple_space.specs.declared.space.TupleSpace.{TupleSpace}
 use Rattle.tuple_space.specs.Arrivals.{rules_of}
-use Rattle.tuple_space.specs.Changes.{Came, Went, rank_left}
+use Rattle.tuple_space.specs.Changes.{Went, rank_left}
 use Rattle.tuple_space.specs.Tuples.{TuplesOf, worn, rank_of, listed, masks_of, remaining, left_after}
 use Rattle.tuple_space.proofs.RuleLaws.{each_worn, named_has, removed_back, at_id_some, worn_by_id, rank_by_id}
 use Rattle.tuple_space.proofs.OrderLaws.{each_worn_tuple, few_tuples}

@@ -1,20 +1,19 @@
 -- The tuples of some rules: what stays true of them as masks come and go and ranks change.
-use Rattle.std.proofs.Common.{◌≡◌, ℕ, zero, suc, ◌<◌, ◌≤◌, Bool, true, false, cond, not, ◌&&◌, ◌||◌, eqb, ltb, ◌⊎◌, List, [], ◌∷◌, ◌++◌, map, length, get_or, set, filter, sym, refl, ap, ◌∙◌, subst, ap₂, inl, inr, ⊎_elim, arith}
+use Rattle.std.proofs.Common.{◌≡◌, ℕ, zero, suc, ◌<◌, Bool, true, false, cond, not, ◌&&◌, ◌||◌, ◌⊎◌, List, [], ◌∷◌, ◌++◌, length, get_or, set, filter, sym, refl, ap, ◌∙◌, subst, ap₂, inl, inr, ⊎_elim, arith}
 use Rattle.std.specs.List as holes
-use Rattle.std.specs.List.{ContainsAt as Has, AllByRecursion as All}
+use Rattle.std.specs.List.{AllByRecursion}
 use Rattle.std.specs.Str.{bytes_eq}
-use Rattle.std.proofs.lemmas.Bool.{cond_both, cond-true, cond-false, cases_Bool, both_ways, and_parts, and_from, and_left, and_right, or_left, or_right, or_cases, or_parts, or_from, true≢false, not_from_true, not_from_false, not-true}
-use Rattle.std.proofs.ByRecursion.{All-weaker, all-has}
+use Rattle.std.proofs.lemmas.Bool.{cond-true, cond-false, cases_Bool, both_ways, and_parts, and_from, and_right, or_left, or_right, or_parts, or_from, not_from_true, not_from_false, not-true}
+use Rattle.std.proofs.ByRecursion.{All-weaker}
 use Rattle.std.proofs.lemmas.Slice.Eq.{bytes_eq-Decides}
-use Rattle.classifier.specs.declared.rule.Rule.{Rule}
 use Rattle.tuple_space.specs.declared.ranked_mask.RankedMask.{RankedMask}
-use Rattle.tuple_space.specs.Tuples.{worn, larger, rank_of, masks_of, tuple_of, listed, rank_in, distinct, TuplesOf}
+use Rattle.tuple_space.specs.Tuples.{masks_of, listed, rank_in, distinct}
 use Rattle.tuple_space.proofs.Outcomes.{same_sym}
 use Rattle.tuple_space.proofs.RuleLaws.{same_refl}
 
 -- each tuple is listed, with its rank ---------------------------------------------------------------------------
 
-pub each_listed : (ts : List RankedMask) → All (λ t. listed ts t.mask ≡ true) ts
+pub each_listed : (ts : List RankedMask) → AllByRecursion (λ t. listed ts t.mask ≡ true) ts
 unfolding listed
 each_listed [] = tt
 each_listed (t ∷ ts) = (
@@ -33,7 +32,7 @@ pub rest_distinct : (t : RankedMask) (ts : List RankedMask) → distinct (t ∷ 
 unfolding distinct
 rest_distinct t ts d = (and_parts (not (listed ts t.mask)) (distinct ts) d).1
 
-pub each_ranked : (ts : List RankedMask) → distinct ts ≡ true → All (λ t. rank_in ts t.mask ≡ t.rank) ts
+pub each_ranked : (ts : List RankedMask) → distinct ts ≡ true → AllByRecursion (λ t. rank_in ts t.mask ≡ t.rank) ts
 unfolding rank_in
 each_ranked [] d = tt
 each_ranked (t ∷ ts) d = (
@@ -41,7 +40,7 @@ each_ranked (t ∷ ts) d = (
   later ts (each_listed ts) (each_ranked ts (rest_distinct t ts d)),
 )
   where
-    later : (us : List RankedMask) → All (λ u. listed ts u.mask ≡ true) us → All (λ u. rank_in ts u.mask ≡ u.rank) us → All (λ u. cond (bytes_eq t.mask u.mask) t.rank (rank_in ts u.mask) ≡ u.rank) us
+    later : (us : List RankedMask) → AllByRecursion (λ u. listed ts u.mask ≡ true) us → AllByRecursion (λ u. rank_in ts u.mask ≡ u.rank) us → AllByRecursion (λ u. cond (bytes_eq t.mask u.mask) t.rank (rank_in ts u.mask) ≡ u.rank) us
     later [] l h = tt
     later (u ∷ us) l h =
         (cond-false (bytes_eq t.mask u.mask) t.rank (rank_in ts u.mask) (apart t ts u.mask d l.0) ∙ h.0, later us l.1 h.1)
@@ -210,7 +209,7 @@ masks_removed (t ∷ ts) zero d l q =
     sym (cond-false (not (bytes_eq t.mask t.mask)) (t.mask ∷ filter (λ m. not (bytes_eq t.mask m)) (masks_of ts)) (filter (λ m. not (bytes_eq t.mask m)) (masks_of ts)) (not_from_true (bytes_eq t.mask t.mask) (same_refl t.mask))
     ∙ all_left ts (each_listed ts))
   where
-    all_left : (us : List RankedMask) → All (λ u. listed ts u.mask ≡ true) us → filter (λ m. not (bytes_eq t.mask m)) (masks_of us) ≡ masks_of us
+    all_left : (us : List RankedMask) → AllByRecursion (λ u. listed ts u.mask ≡ true) us → filter (λ m. not (bytes_eq t.mask m)) (masks_of us) ≡ masks_of us
     all_left [] h = refl
     all_left (u ∷ us) h =
         cond-true (not (bytes_eq t.mask u.mask)) (u.mask ∷ filter (λ m. not (bytes_eq t.mask m)) (masks_of us)) (filter (λ m. not (bytes_eq t.mask m)) (masks_of us)) (not_from_false (bytes_eq t.mask u.mask) (apart t ts u.mask q h.0))

@@ -1,24 +1,20 @@
 -- What a visit of the tuples finds: the best rule of the table.
-use Rattle.std.proofs.Common.{◌≡◌, ℕ, ◌<◌, ◌≤◌, Bool, true, false, cond, ◌||◌, ltb, ◌⊎◌, List, [], ◌∷◌, map, length, Some, None, filter, Option, sym, refl, ap, ◌∙◌, subst, ap₂, inl, inr, ⊎_elim, arith}
-use Rattle.std.specs.Option.{option_map}
-use Rattle.std.specs.List.{ContainsAt as Has, AllByRecursion as All}
+use Rattle.std.proofs.Common.{◌≡◌, ℕ, ◌<◌, ◌≤◌, Bool, true, false, ltb, ◌⊎◌, List, [], ◌∷◌, Some, None, filter, Option, sym, refl, ap, subst, ⊎_elim, arith}
+use Rattle.std.specs.List.{ContainsAt, AllByRecursion}
 use Rattle.std.specs.Str.{bytes_eq}
-use Rattle.std.proofs.lemmas.Bool.{cond_both, cond-true, cond-false, cases_Bool, both_ways, ltb-true, ltb-false, or_from, or_parts, or_cases}
-use Rattle.std.proofs.ByRecursion.{All-weaker, all-has, all_has_itself, all_kept_by, kept_by_passes, has_append_right}
-use Rattle.std.proofs.lemmas.Slice.Eq.{bytes_eq-Decides}
+use Rattle.std.proofs.lemmas.Bool.{cond_both, both_ways, ltb-true, ltb-false}
+use Rattle.std.proofs.ByRecursion.{All-weaker, all-has, all_has_itself, all_kept_by, has_append_right}
 use Rattle.classifier.specs.declared.rule.Rule.{Rule}
 use Rattle.classifier.specs.Rules.{best, matches}
 use Rattle.classifier.specs.Inserts.{Pairs, pairs_kept_by}
 use Rattle.classifier.specs.BestLaws.{Untied}
 use Rattle.classifier.specs.LawsLemmas.{Said, said_best}
-use Rattle.tuple_space.specs.declared.ranked_mask.RankedMask.{RankedMask}
-use Rattle.tuple_space.specs.Tuples.{listed}
 use Rattle.tuple_space.specs.Visits.{having, better}
 
 -- of the rules of which P holds, this is the best for the key
 abbrev pub Tops : List Rule → List ℕ → (Rule → Type 0) → Option Rule → Type 0
-Tops rs k P None = (r : Rule) → Has rs r → P r → matches r k ≡ false
-Tops rs k P (Some b) = Has rs b × (matches b k ≡ true) × ((r : Rule) → Has rs r → P r → matches r k ≡ true → r.priority ≤ b.priority)
+Tops rs k P None = (r : Rule) → ContainsAt rs r → P r → matches r k ≡ false
+Tops rs k P (Some b) = ContainsAt rs b × (matches b k ≡ true) × ((r : Rule) → ContainsAt rs r → P r → matches r k ≡ true → r.priority ≤ b.priority)
 
 pub tops_join : (rs : List Rule) (k : List ℕ) (P Q R : Rule → Type 0) (o n : Option Rule) → ((r : Rule) → R r → P r ⊎ Q r) → Tops rs k P o → Tops rs k Q n → Tops rs k R (better (λ r. r.priority) o n)
 tops_join rs k P Q R None None j s t = λ r h x. ⊎_elim (λ p. s r h p) (λ q. t r h q) (j r x)
@@ -54,24 +50,24 @@ tops_best rs k o u t = tops_said rs k o (best rs k) t (said_best rs k u)
 
 -- the search of one tuple ----------------------------------------------------------------------------------------
 
-kept_has : {X : Type 0} (p : X → Bool) (xs : List X) → All (λ x. p x ≡ true → Has (filter p xs) x) xs
+kept_has : {X : Type 0} (p : X → Bool) (xs : List X) → AllByRecursion (λ x. p x ≡ true → ContainsAt (filter p xs) x) xs
 kept_has p [] = tt
 kept_has p (x ∷ xs) =
-    cond_both (p x) (x ∷ filter p xs) (filter p xs) (λ ys. (p x ≡ true → Has ys x) × All (λ y. p y ≡ true → Has ys y) xs)
+    cond_both (p x) (x ∷ filter p xs) (filter p xs) (λ ys. (p x ≡ true → ContainsAt ys x) × AllByRecursion (λ y. p y ≡ true → ContainsAt ys y) xs)
     (λ e. (
       (λ _. (0, omega arith, λ d. refl)),
-      All-weaker (λ y. p y ≡ true → Has (filter p xs) y) (λ y. p y ≡ true → Has (x ∷ filter p xs) y) (λ y f q. has_append_right (x ∷ []) (filter p xs) y (f q)) xs (kept_has p xs),
+      All-weaker (λ y. p y ≡ true → ContainsAt (filter p xs) y) (λ y. p y ≡ true → ContainsAt (x ∷ filter p xs) y) (λ y f q. has_append_right (x ∷ []) (filter p xs) y (f q)) xs (kept_has p xs),
     ))
     (λ e. ((λ t. absurd (both_ways (p x) e t)), kept_has p xs))
 
 tops_from_said : (rs : List Rule) (p : Rule → Bool) (k : List ℕ) (o : Option Rule) → Said (filter p rs) k o → Tops rs k (λ r. p r ≡ true) o
 tops_from_said rs p k None s =
-    λ r h x. all-has (λ y. matches y k ≡ false) (filter p rs) r s (all-has (λ y. p y ≡ true → Has (filter p rs) y) rs r (kept_has p rs) h x)
+    λ r h x. all-has (λ y. matches y k ≡ false) (filter p rs) r s (all-has (λ y. p y ≡ true → ContainsAt (filter p rs) y) rs r (kept_has p rs) h x)
 tops_from_said rs p k (Some b) s = (
-  all-has (Has rs) (filter p rs) b (all_kept_by p (Has rs) rs (all_has_itself rs)) s.0,
+  all-has (ContainsAt rs) (filter p rs) b (all_kept_by p (ContainsAt rs) rs (all_has_itself rs)) s.0,
   s.1,
   λ r h x m. ⊎_elim (λ e. subst (λ y. y.priority ≤ b.priority) (sym e) (omega arith)) (λ l. omega arith)
-      (all-has (λ y. matches y k ≡ true → (y ≡ b) ⊎ (y.priority < b.priority)) (filter p rs) r s.2 (all-has (λ y. p y ≡ true → Has (filter p rs) y) rs r (kept_has p rs) h x) m),
+      (all-has (λ y. matches y k ≡ true → (y ≡ b) ⊎ (y.priority < b.priority)) (filter p rs) r s.2 (all-has (λ y. p y ≡ true → ContainsAt (filter p rs) y) rs r (kept_has p rs) h x) m),
 )
 
 pub tops_having : (rs : List Rule) (m k : List ℕ) → Pairs Untied rs → Tops rs k (λ r. bytes_eq r.mask m ≡ true) (best (having rs m) k)

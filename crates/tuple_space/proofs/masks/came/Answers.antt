@@ -1,4 +1,4 @@
-use Rattle.std.proofs.Common.{◌≡◌, ◌<◌, length, get_or, vec_items, sym, refl, ap, ◌∙◌, subst, arith, rules}
+use Rattle.std.proofs.Common.{◌≡◌, ◌<◌, length, get_or, vec_items, sym, ap, ◌∙◌, subst, arith}
 use Rattle.std.proofs.lemmas.List.{get_or_default}
 use Rattle.std.proofs.lemmas.Bool.{cond-true}
 use Rattle.tuple_space.specs.declared.ranked_mask.RankedMask.{RankedMask}
@@ -12,9 +12,9 @@ returns-in-Some c =
     let ts = vec_items c.args.tuples.now in
     let at = subst (λ us. (c.in-Some.place < length us) × ((d : RankedMask) → (get_or us c.in-Some.place d).mask ≡ c.args.mask.now)) c.deref.ensures.value c.in-Some.ensures in
     record {
-      is = came_at ts c.in-Some.place c.args.priority c.larger-rank.result c.args.mask.now c.index-mut.result.now at.0 c.requires.once at.1
-          c.index-mut.ensures.value
-          (c.larger-rank.ensures ∙ ap (λ (t : RankedMask). larger c.args.priority t.rank) (c.index.ensures ∙ get_or_default ts c.in-Some.place c.index.result.now c.index-mut.result.now at.0 ∙ sym c.index-mut.ensures.value));
+      is = came_at ts c.in-Some.place c.args.priority c.larger-rank.result c.args.mask.now c.index_mut.result.now at.0 c.requires.once at.1
+          c.index_mut.ensures.value
+          (c.larger-rank.ensures ∙ ap (λ (t : RankedMask). larger c.args.priority t.rank) (c.index.ensures ∙ get_or_default ts c.in-Some.place c.index.result.now c.index_mut.result.now at.0 ∙ sym c.index_mut.ensures.value));
       room = omega arith;
     }
 

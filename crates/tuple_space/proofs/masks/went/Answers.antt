@@ -1,4 +1,4 @@
-use Rattle.std.proofs.Common.{◌≡◌, ◌<◌, length, get_or, None, vec_items, sym, refl, ap, ◌∙◌, subst, arith, rules}
+use Rattle.std.proofs.Common.{◌≡◌, ◌<◌, length, get_or, None, vec_items, sym, subst, arith}
 use Rattle.tuple_space.specs.declared.ranked_mask.RankedMask.{RankedMask}
 use Rattle.tuple_space.specs.Changes.{Went}
 use Rattle.tuple_space.proofs.ChangeLaws.{went_at, went_none}
@@ -9,7 +9,7 @@ returns-in-Some-rank c =
     let ts = vec_items c.args.tuples.now in
     let at = subst (λ us. (c.in-Some.place < length us) × ((d : RankedMask) → (get_or us c.in-Some.place d).mask ≡ c.args.mask.now)) c.deref.ensures.value c.in-Some.ensures in
     record {
-      is = subst (Went ts _ c.args.mask.now) (sym c.in-Some-rank.is) (went_at ts c.in-Some.place c.in-Some-rank.rank c.args.mask.now c.index-mut.result.now at.0 c.requires.once at.1 c.index-mut.ensures.value);
+      is = subst (Went ts _ c.args.mask.now) (sym c.in-Some-rank.is) (went_at ts c.in-Some.place c.in-Some-rank.rank c.args.mask.now c.index_mut.result.now at.0 c.requires.once at.1 c.index_mut.ensures.value);
       room = omega arith;
     }
 

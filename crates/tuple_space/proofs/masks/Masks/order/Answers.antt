@@ -1,4 +1,4 @@
-use Rattle.std.proofs.Common.{◌≡◌, ◌<◌, ◌≤◌, [], length, is_ok, vec_items, vec_len, vec_capacity, sym, refl, ap, ◌∙◌, subst, arith, rules}
+use Rattle.std.proofs.Common.{◌≡◌, ◌<◌, [], length, is_ok, vec_items, vec_len, vec_capacity, refl, ap, ◌∙◌, subst, arith}
 use Rattle.std.specs.List.{insert}
 use Rattle.std.proofs.lemmas.Bool.{cond-true}
 use Rattle.tuple_space.specs.Visits.{ordered, placed}
@@ -25,7 +25,7 @@ loop-i-preserved c =
     let done = c.insert.ensures.succeeds fits in (
       c.loop-i.invariant.0,
       ordered_next vs (vec_items c.insert.new.self) ts c.loop-i.i t t _ within c.index-tuple.ensures
-          (c.insert.ensures.items ∙ cond-true (is_ok c.insert.result) (insert vs c.visit-place-place.result t) vs done ∙ subst (λ us. insert us c.visit-place-place.result t ≡ placed us t) c.deref.ensures.value (c.visit-place-place.ensures.is t refl)) c.loop-i.invariant.1,
+          (c.insert.ensures.items ∙ cond-true (is_ok c.insert.result) (insert vs c.visit_place-place.result t) vs done ∙ subst (λ us. insert us c.visit_place-place.result t ≡ placed us t) c.deref.ensures.value (c.visit_place-place.ensures.is t refl)) c.loop-i.invariant.1,
       c.insert.ensures.len ∙ cond-true _ _ _ done ∙ omega (arith, c.loop-i.invariant.2),
       omega (arith, c.insert.ensures.capacity, c.loop-i.invariant.3),
     )

@@ -5,14 +5,9 @@ use Rattle.tuple_space.proofs.ChangeLaws.{tuples_credited}
 use Rattle.tuple_space.proofs.SpaceLaws.{tuples_held}
 use Rattle.tuple_space.proofs.space.methods.TupleSpaceClassifier.credit.Goals as goal
 
-pub invariant-of-self : goal.invariant-of-self
-invariant-of-self c =
+pub invariant_of-self : goal.invariant_of-self
+invariant_of-self c =
     let s = c.args.self.now in
     let arrivals = vec_items s.masks.arrived in
-    let t = subst (λ rs. TuplesOf rs arrivals) (sym c.credit.ensures) (tuples_credited (rules_of s) c.args.id c.args.n arrivals (tuples_held s)) in (
-      s.room,
-      (
-        s.seats,
-        (t.masks, (t.ranks, (t.once, (s.sorted, tt)))),
-      ),
-    )
+    let t = subst (λ rs. TuplesOf rs arrivals) (sym c.credit.ensures) (tuples_credited (rules_of s) c.args.id c.args.n arrivals (tuples_held s)) in
+    record { room = s.room; seats = s.seats; covered = t.masks; ranks = t.ranks; once = t.once; sorted = s.sorted }

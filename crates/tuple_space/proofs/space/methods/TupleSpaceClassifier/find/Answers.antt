@@ -1,4 +1,4 @@
-use Rattle.std.proofs.Common.{◌≡◌, [], None, vec_items, sym, ap, ◌∙◌, subst, rules}
+use Rattle.std.proofs.Common.{[], None, vec_items, ap, ◌∙◌}
 use Rattle.std.specs.Option.{option_map}
 use Rattle.flow.specs.Masks.{union, empty_mask}
 use Rattle.classifier.specs.KeptLaws.{lawful_kept}

@@ -1,19 +1,21 @@
-use Rattle.std.proofs.Common.{[], vec_items, sym, ap, ◌∙◌, subst, rules}
+use Rattle.std.proofs.Common.{[], vec_items, sym, ap, ◌∙◌}
 use Rattle.classifier.specs.Kept.{standing_rules}
 use Rattle.tuple_space.specs.Visits.{ordered}
 use Rattle.tuple_space.proofs.ChangeLaws.{tuples_none}
 use Rattle.tuple_space.proofs.OrderLaws.{same_tuples_refl}
 use Rattle.tuple_space.proofs.space.methods.TupleSpaceClassifier.new.Goals as goal
 
-pub invariant-of-result : goal.invariant-of-result
+pub invariant_of-result : goal.invariant_of-result
 unfolding ordered
-invariant-of-result c =
-    let m = c.in-ok-masks.ensures in
-    let arrivals = vec_items c.in-ok-masks.masks.arrived in
-    let t = tuples_none (standing_rules c.in-ok-rules.rules.store) arrivals c.in-ok-rules.ensures m.0 in (
-      m.2,
-      (
-        m.3,
-        (t.masks, (t.ranks, (t.once, (same_tuples_refl (vec_items c.in-ok-masks.masks.visits) (ordered [] arrivals) (m.1 ∙ sym (ap (ordered []) m.0)), tt)))),
-      ),
-    )
+invariant_of-result c =
+    let m = c.in_ok-masks.ensures in
+    let arrivals = vec_items c.in_ok-masks.masks.arrived in
+    let t = tuples_none (standing_rules c.in_ok-rules.rules.store) arrivals c.in_ok-rules.ensures m.0 in
+    record {
+      room = m.2;
+      seats = m.3;
+      covered = t.masks;
+      ranks = t.ranks;
+      once = t.once;
+      sorted = same_tuples_refl (vec_items c.in_ok-masks.masks.visits) (ordered [] arrivals) (m.1 ∙ sym (ap (ordered []) m.0));
+    }

@@ -1,16 +1,15 @@
-use Rattle.std.proofs.Common.{◌≡◌, ◌≤◌, [], length, vec_items, vec_capacity, sym, refl, ap, ◌∙◌, subst, arith, rules}
+use Rattle.std.proofs.Common.{◌≤◌, [], vec_items, vec_capacity, sym, ap, ◌∙◌, subst, arith}
 use Rattle.classifier.specs.Kept.{kept}
 use Rattle.tuple_space.specs.Changes.{Went, rank_left}
-use Rattle.tuple_space.specs.Tuples.{masks_of}
 use Rattle.tuple_space.specs.Visits.{ordered}
 use Rattle.tuple_space.proofs.OrderLaws.{same_tuples_refl}
-use Rattle.tuple_space.proofs.SpaceLaws.{AfterRemoval, after_removal, named_listed, few_all}
+use Rattle.tuple_space.proofs.SpaceLaws.{after_removal, named_listed, few_all}
 use Rattle.tuple_space.proofs.space.methods.TupleSpaceClassifier.remove.Goals as goal
 
 pub went-requires : goal.went-requires
 went-requires c =
     let s = c.args.self.now in
-    record { once = s.once; there = named_listed s c.args.id c.in-ok-rule.rule c.in-ok-rule.ensures.2 }
+    record { once = s.once; there = named_listed s c.args.id c.in_ok-rule.rule c.in_ok-rule.ensures.2 }
 
 pub order-requires : goal.order-requires
 order-requires c =
@@ -18,27 +17,29 @@ order-requires c =
     let f = few_all s in
     record { few = omega (arith, f, c.went.ensures.is.few); room = s.seats }
 
-pub invariant-of-self-2 : goal.invariant-of-self-2
-invariant-of-self-2 c =
+pub invariant_of-self-2 : goal.invariant_of-self-2
+invariant_of-self-2 c =
     let s = c.args.self.now in
     let us = vec_items c.order.new.self.arrived in
     let same = ap vec_items c.order.ensures.kept in
-    let w = subst (Went (vec_items s.masks.arrived) us c.in-ok-rule.rule.mask) (c.rank-left-rank.ensures ∙ ap (λ xs. rank_left xs c.in-ok-rule.rule.mask) c.rules.ensures) (subst (λ ys. Went (vec_items s.masks.arrived) ys c.in-ok-rule.rule.mask c.rank-left-rank.result) (sym same) c.went.ensures.is) in
-    let t = (after_removal s c.args.id c.in-ok-rule.rule (kept c.remove.new.self.store) us c.in-ok-rule.ensures.2 c.in-ok-rule.ensures.1 w).tuples in (
-      subst (λ v. 64 ≤ vec_capacity v) (sym c.order.ensures.kept) (omega (arith, s.room, c.went.ensures.room)),
-      (
-        c.order.ensures.room,
-        (t.masks, (t.ranks, (t.once, (same_tuples_refl (vec_items c.order.new.self.visits) (ordered [] us) (c.order.ensures.ordered ∙ ap (ordered []) (sym same)), tt)))),
-      ),
-    )
+    let w = subst (Went (vec_items s.masks.arrived) us c.in_ok-rule.rule.mask) (c.rank_left-rank.ensures ∙ ap (λ xs. rank_left xs c.in_ok-rule.rule.mask) c.rules.ensures) (subst (λ ys. Went (vec_items s.masks.arrived) ys c.in_ok-rule.rule.mask c.rank_left-rank.result) (sym same) c.went.ensures.is) in
+    let t = (after_removal s c.args.id c.in_ok-rule.rule (kept c.remove.new.self.store) us c.in_ok-rule.ensures.2 c.in_ok-rule.ensures.1 w).tuples in
+    record {
+      room = subst (λ v. 64 ≤ vec_capacity v) (sym c.order.ensures.kept) (omega (arith, s.room, c.went.ensures.room));
+      seats = c.order.ensures.room;
+      covered = t.masks;
+      ranks = t.ranks;
+      once = t.once;
+      sorted = same_tuples_refl (vec_items c.order.new.self.visits) (ordered [] us) (c.order.ensures.ordered ∙ ap (ordered []) (sym same));
+    }
 
 pub returns : goal.returns
 returns c =
     let s = c.args.self.now in
     let us = vec_items c.order.new.self.arrived in
     let same = ap vec_items c.order.ensures.kept in
-    let w = subst (Went (vec_items s.masks.arrived) us c.in-ok-rule.rule.mask) (c.rank-left-rank.ensures ∙ ap (λ xs. rank_left xs c.in-ok-rule.rule.mask) c.rules.ensures) (subst (λ ys. Went (vec_items s.masks.arrived) ys c.in-ok-rule.rule.mask c.rank-left-rank.result) (sym same) c.went.ensures.is) in
+    let w = subst (Went (vec_items s.masks.arrived) us c.in_ok-rule.rule.mask) (c.rank_left-rank.ensures ∙ ap (λ xs. rank_left xs c.in_ok-rule.rule.mask) c.rules.ensures) (subst (λ ys. Went (vec_items s.masks.arrived) ys c.in_ok-rule.rule.mask c.rank_left-rank.result) (sym same) c.went.ensures.is) in
     record {
-      0 = (c.in-ok-rule.ensures.0, c.in-ok-rule.ensures.1);
-      masks = (after_removal s c.args.id c.in-ok-rule.rule (kept c.remove.new.self.store) us c.in-ok-rule.ensures.2 c.in-ok-rule.ensures.1 w).masks;
+      cases = (c.in_ok-rule.ensures.0, c.in_ok-rule.ensures.1);
+      masks = (after_removal s c.args.id c.in_ok-rule.rule (kept c.remove.new.self.store) us c.in_ok-rule.ensures.2 c.in_ok-rule.ensures.1 w).masks;
     }
