@@ -1,4 +1,4 @@
-use Rattle.std.proofs.Common.{◌≡◌, ◌+◌, ◌-◌, ◌++◌, length, take, drop, ap, ◌∙◌, ap₂, arith}
+use Rattle.std.proofs.Common.{◌+◌, ◌-◌, ◌++◌, length, take, drop, ap, ◌∙◌, ap₂, arith}
 use Rattle.std.proofs.lemmas.List.{drop-drop}
 use Rattle.rule.proofs.field.put.Goals as goal
 

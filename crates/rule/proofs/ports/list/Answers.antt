@@ -1,4 +1,4 @@
-use Rattle.std.proofs.Common.{◌≡◌, Some, None, sym, ◌∙◌, rules}
+use Rattle.std.proofs.Common.{Some, None, ◌∙◌, rules}
 use Rattle.rule.proofs.PartLaws.{behind_shorter}
 use Rattle.rule.proofs.PortLaws.{next_word, last_word}
 use Rattle.rule.proofs.ports.list.Goals as goal

@@ -1,4 +1,4 @@
-use Rattle.std.proofs.Common.{◌≡◌, [], sym, refl, ◌∙◌, arith}
+use Rattle.std.proofs.Common.{[], sym, refl, ◌∙◌, arith}
 use Rattle.std.proofs.lemmas.List.{length-set}
 use Rattle.rule.proofs.RowLaws.{start, stop, step, done}
 use Rattle.rule.proofs.value.pairs.Goals as goal

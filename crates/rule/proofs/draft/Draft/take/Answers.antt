@@ -34,4 +34,4 @@ returns-in-value c =
 
 pub returns-in_default-name : goal.returns-in_default-name
 returns-in_default-name c =
-    subst (Turns c.args.self.now c.field.new.self c.field.result) (at_field c.args.self.now (cut_at 61 c.args.word.now) (c.in-Some.name.now, c.in-Some.text.now) c.in-Some.ensures c.in_default-name.not-IsTable c.in_default-name.not-id c.in_default-name.not-priority c.in_default-name.not-next c.in_default-name.not-ports c.in_default-name.not-mask c.in_default-name.not-value) c.field.ensures
+    subst (Turns c.args.self.now c.field.new.self c.field.result) (at_field c.args.self.now (cut_at 61 c.args.word.now) (c.in-Some.name.now, c.in-Some.text.now) c.in-Some.ensures c.in_default-name.not-table c.in_default-name.not-id c.in_default-name.not-priority c.in_default-name.not-next c.in_default-name.not-ports c.in_default-name.not-mask c.in_default-name.not-value) c.field.ensures
