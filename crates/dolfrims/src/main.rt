@@ -6,6 +6,7 @@ mod run;
 use run::{RunFault, run};
 use script::statement::{Numbered, ScriptFault, parse};
 use std::alloc::{AllocError, AllocFailed};
+use std::process::ExitCode;
 use std::{env, fmt, fs, io};
 
 // Why the program ends with status 1.
@@ -116,12 +117,12 @@ fn run_all(rt: &HostRuntime) -> Result<(), Fault> {
     run_files(rt, names)
 }
 
-fn main(rt: HostRuntime) -> Result<(), Fault> {
+fn main(rt: HostRuntime) -> ExitCode {
     match run_all(&rt) {
-        Ok(()) => Ok(()),
+        Ok(()) => ExitCode::SUCCESS,
         Err(fault) => {
             let _ = eprintln!(rt; "{fault}");
-            Err(fault)
+            ExitCode::FAILURE
         }
     }
 }
