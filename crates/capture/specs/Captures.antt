@@ -1,5 +1,5 @@
 -- The headers of a classic packet capture, over their bytes.
-use Rattle.std.specs.Prelude.{ℕ, ◌+◌, ◌*◌, Bool, cond, ◌||◌, List, [], ◌∷◌, Ok, Err, Result, ◌==◌, slice_index}
+use Rattle.std.specs.Prelude.{ℕ, ◌+◌, ◌*◌, Bool, cond, ◌||◌, List, Ok, Err, Result, ◌==◌, slice_index}
 use Rattle.capture.specs.declared.header.Order.{Order}
 use Rattle.capture.specs.declared.header.Order.TheVariants.{Big, Little}
 use Rattle.capture.specs.declared.header.HeaderFault.{HeaderFault}

@@ -10,7 +10,7 @@ use pair::switches::Switches;
 use pile::{AnyClassifier, ClassifierKind};
 use script::piles::piles_of;
 use script::statement::{ClassifierName, Numbered, Pile, Statement};
-use std::alloc::AllocError;
+use std::alloc::{AllocError, AllocFailed};
 use std::fs::File;
 use std::io::BufReader;
 use std::{fmt, fs, io};
@@ -52,6 +52,12 @@ impl fmt::Display for RunFault {
 
 impl From<AllocError> for RunFault {
     fn from(_e: AllocError) -> RunFault {
+        RunFault::Memory
+    }
+}
+
+impl<T: Drop> From<AllocFailed<T>> for RunFault {
+    fn from(_e: AllocFailed<T>) -> RunFault {
         RunFault::Memory
     }
 }
@@ -106,7 +112,10 @@ fn open_frames(rt: &HostRuntime, line: u64, path: &str) -> Result<Frames, RunFau
         Ok(file) => file,
         Err(e) => return Err(open_fault(rt, line, path, e)),
     };
-    let mut input = BufReader::new(rt.alloc(), file).map_err(|_| std::alloc::AllocError)?;
+    let mut input = match BufReader::new(rt.alloc(), file) {
+        Ok(input) => input,
+        Err(e) => return Err(open_fault(rt, line, path, e)),
+    };
     match Capture::open(rt.alloc(), &mut input) {
         Ok(capture) => Ok(Frames { input, capture }),
         Err(fault) => Err(capture_fault(rt, line, path, fault)),

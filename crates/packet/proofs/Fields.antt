@@ -1,5 +1,5 @@
 -- The fields that IPv4, TCP and UDP fill, as bytes of the key.
-use Rattle.std.proofs.Common.{◌≡◌, ℕ, List, [], ◌∷◌, ◌++◌, sym, refl, ap, ◌∙◌}
+use Rattle.std.proofs.Common.{◌≡◌, ℕ, List, [], ◌∷◌, ◌++◌, ap, ◌∙◌}
 use Rattle.std.specs.List.{flat_map}
 use Rattle.packet.specs.declared.ipv4.Ipv4Fields.{Ipv4Fields}
 use Rattle.packet.specs.Frames.{byte, part, bytes16, bytes32, fragment, protocol, transport, flags_field, port_fields, ipv4_fields}

@@ -1,11 +1,11 @@
 -- The in-port's place in the key, and the parts' places in the frame.
-use Rattle.std.proofs.Common.{◌≡◌, ℕ, ◌+◌, ◌-◌, ◌<◌, ◌≤◌, Bool, true, false, cond, ◌&&◌, ◌⊎◌, List, [], ◌∷◌, ◌++◌, length, take, drop, IfSome, Some, None, Option, sym, refl, ap, ◌∙◌, subst, ap₂, ⊎_elim, arith, length-drop, length-take, MatchOption}
+use Rattle.std.proofs.Common.{◌≡◌, ℕ, ◌+◌, ◌-◌, ◌≤◌, true, false, ◌&&◌, ◌⊎◌, List, [], length, take, drop, IfSome, None, Option, sym, refl, ap, ◌∙◌, subst, ap₂, ⊎_elim, arith, length-drop, MatchOption}
 use Rattle.std.proofs.lemmas.List.{length-take-le, drop-drop}
 use Rattle.std.proofs.lemmas.Bool.{and_parts, and_from, and_right, cond-true, cond-false, cases_Bool}
-use Rattle.packet.specs.Frames.{Span, part, header_len, total_len, has_ipv4, has_transport, transport, type_word, network_at, network, key_layout, link_layout, key_of, header_part, transport_part, ipv4_of, transport_of}
-use Rattle.packet.specs.Laws.{Inside, RightBehind, packet_end, InPortStandsFirst, PartsLieInside}
+use Rattle.packet.specs.Frames.{Span, part, header_len, total_len, has_ipv4, has_transport, type_word, network_at, network, key_of, ipv4_of, transport_of}
+use Rattle.packet.specs.Laws.{Inside, RightBehind, InPortStandsFirst, PartsLieInside}
 use Rattle.packet.proofs.Padding.{LengthsFit, sound_fits}
-use Rattle.packet.proofs.Parts.{no_header, no_transport}
+use Rattle.packet.proofs.Parts.{no_transport}
 
 pub in_port_stands_first : InPortStandsFirst
 unfolding key_of

@@ -1,9 +1,9 @@
 -- Bytes behind a packet's end change nothing.
-use Rattle.std.proofs.Common.{◌≡◌, ℕ, ◌+◌, ◌-◌, ◌*◌, ◌/◌, ◌%◌, ◌<◌, ◌≤◌, Bool, true, false, cond, not, ◌&&◌, eqb, ltb, ◌⊎◌, List, [], ◌∷◌, ◌++◌, length, get_or, take, drop, Some, None, sym, refl, ap, ◌∙◌, ap₂, inl, inr, ⊎_elim, arith, length-append, length-drop}
+use Rattle.std.proofs.Common.{◌≡◌, ℕ, ◌+◌, ◌-◌, ◌*◌, ◌/◌, ◌%◌, ◌<◌, ◌≤◌, true, false, cond, not, ◌&&◌, eqb, ltb, ◌⊎◌, List, [], ◌++◌, length, take, drop, Some, None, sym, ap, ◌∙◌, ap₂, ⊎_elim, arith, length-append, length-drop}
 use lib.Bits.{bit_or}
 use Rattle.std.proofs.lemmas.List.{get_or_append_left, take-append-le, drop-append-le}
 use Rattle.std.proofs.lemmas.Bool.{and_parts, and_from, leb-true, le-leb, cond-true, cond-false, eqb-true, eqb-false, cases_Bool}
-use Rattle.packet.specs.Frames.{byte, word, part, fragment, has_transport, transport, header_len, total_len, sound_ipv4, has_ipv4, ipv4_fields, flags_field, port_fields, protocol, network_fields, header_part, transport_part, tagged, type_word, vlan_field, network_at, network, refusal, key_layout, key_of, ipv4_of, transport_of}
+use Rattle.packet.specs.Frames.{byte, word, part, fragment, transport, header_len, total_len, sound_ipv4, has_ipv4, ipv4_fields, flags_field, port_fields, protocol, network_fields, header_part, transport_part, tagged, type_word, vlan_field, network_at, network, refusal, key_layout, key_of, ipv4_of, transport_of}
 use Rattle.packet.specs.Laws.{PaddingNeverMatters}
 use Rattle.packet.proofs.Fields.{lay_same}
 use Rattle.packet.proofs.Refusals.{Admitted, admitted, admitted_untagged, admitted_tagged}

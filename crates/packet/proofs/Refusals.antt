@@ -1,7 +1,6 @@
 -- Which frames are refused, and why.
-use Rattle.std.proofs.Common.{◌≡◌, ℕ, ◌<◌, ◌≤◌, ◌⊎◌, List, length, Some, None, sym, refl, ap, ◌∙◌, arith}
+use Rattle.std.proofs.Common.{◌≡◌, ℕ, ◌≤◌, List, length, None, arith}
 use Rattle.std.proofs.lemmas.Bool.Decides.{nat_tests}
-use Rattle.packet.specs.Faults.{Refusal}
 use Rattle.packet.specs.Frames.{refusal, word}
 
 pub admitted_untagged : (p : ℕ) (f : List ℕ) → 1 ≤ p → p ≤ 63 → 14 ≤ length f → length f ≤ 9216 → (word f 12 ≡ 0x8100 → ⊥) → refusal p f ≡ None

@@ -1,6 +1,6 @@
 -- What the bytes of a frame say, over the list of its bytes: Ethernet II, one 802.1Q tag, IPv4, TCP and UDP.
 -- A number wider than a byte lies most significant byte first.
-use Rattle.std.specs.Prelude.{ℕ, ◌+◌, ◌-◌, ◌*◌, ◌/◌, ◌%◌, Bool, true, false, cond, not, ◌&&◌, ◌||◌, List, [], ◌∷◌, ◌++◌, length, take, drop, replicate, Some, None, Option, ◌==◌, bit_or, nat_le, nat_lt, slice_index}
+use Rattle.std.specs.Prelude.{ℕ, ◌+◌, ◌-◌, ◌*◌, ◌/◌, ◌%◌, Bool, cond, not, ◌&&◌, ◌||◌, List, [], ◌∷◌, ◌++◌, length, take, drop, replicate, Some, None, Option, ◌==◌, bit_or, nat_le, nat_lt, slice_index}
 use Rattle.std.specs.List.{flat_map}
 use Rattle.packet.specs.Faults.{Refusal}
 

@@ -1,5 +1,5 @@
 -- Laws of reading a frame, above the definitions.
-use Rattle.std.specs.Prelude.{◌≡◌, ℕ, ◌+◌, ◌≤◌, true, ◌⊎◌, List, ◌++◌, length, take, drop, IfSome, Some, None, MatchOption, ◌≢◌}
+use Rattle.std.specs.Prelude.{◌≡◌, ℕ, ◌+◌, ◌≤◌, true, ◌⊎◌, List, ◌++◌, length, take, drop, IfSome, None, MatchOption, ◌≢◌}
 use Rattle.packet.specs.Frames.{Span, bytes16, part, refusal, type_word, network_at, network, total_len, has_ipv4, key_of, ipv4_of, transport_of}
 
 -- two frames are read alike at a port

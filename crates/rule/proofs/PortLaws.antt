@@ -1,5 +1,5 @@
 -- A list of ports, word by word.
-use Rattle.std.proofs.Common.{◌≡◌, ℕ, List, [], ◌∷◌, Some, None, Option, sym, refl, ap, ◌∙◌}
+use Rattle.std.proofs.Common.{◌≡◌, ℕ, List, [], Some, None, Option, sym, refl, ap, ◌∙◌}
 use Rattle.numeral.specs.Numbers.{number_of}
 use Rattle.rule.specs.Parts.{cut_at, parts}
 use Rattle.rule.specs.Ports.{bit_of, joined, and_all}

@@ -1,5 +1,5 @@
 -- The fields of a key as a rule names them.
-use Rattle.std.specs.Prelude.{ℕ, cond, List, [], ◌∷◌, Some, None, codes, Option}
+use Rattle.std.specs.Prelude.{ℕ, cond, List, Some, None, codes, Option}
 use Rattle.std.specs.Str.{bytes_eq}
 use Rattle.rule.specs.declared.field.Field.{Field}
 use Rattle.rule.specs.declared.field.Form.TheVariants.{Number, Mac, Quad}

@@ -2,7 +2,6 @@
 use Rattle.std.specs.Prelude.{ℕ, ◌+◌, ◌-◌, ◌*◌, ◌/◌, ◌%◌, ◌^◌, Bool, cond, ◌&&◌, List, [], ◌∷◌, length, Some, None, Option, ◌==◌, nat_le, slice_index}
 use Rattle.numeral.specs.Hex.{nibble_of}
 use Rattle.numeral.specs.Numbers.{number_of, of_bits}
-use Rattle.rule.specs.declared.field.Field.{Field}
 use Rattle.rule.specs.declared.field.Form.{Form}
 use Rattle.rule.specs.declared.field.Form.TheVariants.{Number, Mac, Quad}
 use Rattle.rule.specs.Parts.{cut_at}

@@ -2,7 +2,7 @@
 #![tactic(auto)]
 
 pub mod draft;
-mod field;
+pub mod field;
 mod parts;
-mod ports;
+pub mod ports;
 mod value;

@@ -3,7 +3,6 @@ use Rattle.std.specs.Prelude.{List, [], ◌∷◌}
 use Rattle.script.specs.declared.piles.Piles.{Piles}
 use Rattle.script.specs.declared.statement.ClassifierName.TheVariants.{Linear}
 use Rattle.script.specs.declared.statement.Numbered.{Numbered}
-use Rattle.script.specs.declared.statement.Pile.{Pile}
 use Rattle.script.specs.declared.statement.Side.TheVariants.{A, B}
 use Rattle.script.specs.declared.statement.Statement.{Statement}
 use Rattle.script.specs.declared.statement.Statement.TheVariants.{Key, Keys, Switch, Add, Remove, Count, Frame, Frames, Peek, Totals, Report}

@@ -348,7 +348,7 @@ fn parse_words(
 }
 
 // The statement of a line, or none where the line has only blanks and a comment.
-fn parse_line(heap: Global, line: &str) -> Result<Option<Statement>, LineFault> {
+pub fn parse_line(heap: Global, line: &str) -> Result<Option<Statement>, LineFault> {
     let code = match line.split_once('#') {
         Some((code, _)) => code,
         None => line,

@@ -1,5 +1,5 @@
 -- The ports of a set as text.
-use Rattle.std.proofs.Common.{◌≡◌, ℕ, zero, suc, ◌+◌, ◌/◌, ◌%◌, ◌^◌, cond, eqb, List, [], ◌++◌, codes, sym, refl, ap, ◌∙◌, subst, append-nil, arith, eq-eqb, ne_eqb}
+use Rattle.std.proofs.Common.{◌≡◌, ℕ, suc, ◌+◌, ◌/◌, ◌%◌, ◌^◌, cond, eqb, List, [], ◌++◌, codes, sym, ap, ◌∙◌, subst, append-nil, arith, eq-eqb, ne_eqb}
 use Rattle.text.specs.Texts.{Appended, decimal_text}
 use Rattle.text.specs.Answers.{port_text, ports_below, ports_text}
 use Rattle.text.proofs.Appends.{then}

@@ -79,6 +79,10 @@ start_text place verb = place_text place ++ codes " " ++ verb_text verb ++ codes
 unfoldable pub answer_line : Place → Verb → Answer → Answer → List ℕ
 answer_line place verb a b = start_text place verb ++ both_text a b ++ codes "\n"
 
+-- the line that answers a call by a word of the caller's
+unfoldable pub word_line : Place → List ℕ → Answer → Answer → List ℕ
+word_line place word a b = place_text place ++ codes " " ++ word ++ codes ": " ++ both_text a b ++ codes "\n"
+
 -- whether both answers name the same ports
 abbrev pub same_ports : Answer → Answer → Bool
 same_ports Done b = false

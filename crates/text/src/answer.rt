@@ -3,7 +3,7 @@
 ghost use Rattle.std.specs.Prelude.{◌≡◌, ℕ, ◌+◌, ◌<◌, ◌≤◌, ◌++◌, is_ok, if◌then◌else◌, vec_len, vec_capacity};
 ghost use Rattle.text.specs.Texts.{Appended};
 ghost use Rattle.text.specs.Answers.{port_text, ports_text, said_text, same_answer, same_ports, both_text, verb_text, start_text};
-ghost use Rattle.text.specs.Answers.{answer_line, depths_text, forwarded_text, frame_line, bytes_text, masks_text, peeked_text, peek_line, rule_text, report_line, sums_text, totals_line};
+ghost use Rattle.text.specs.Answers.{answer_line, word_line, depths_text, forwarded_text, frame_line, bytes_text, masks_text, peeked_text, peek_line, rule_text, report_line, sums_text, totals_line};
 
 use super::place::{Place, put_place};
 use super::put::{put, put_byte, put_hex2, put_number, put_refusal};
@@ -171,6 +171,26 @@ pub fn answer_line(
 {
     out.reserve(LONGEST)?;
     put_start(out, place, verb);
+    put_both(out, a, b);
+    put(out, b"\n");
+    Ok(())
+}
+
+// The line that answers a call by a word of the caller's, or nothing where there is no memory for it.
+pub fn word_line(
+    out: &mut Vec<u8>,
+    place: Place,
+    word: &str,
+    a: Answer,
+    b: Answer,
+) -> Result<(), AllocError>
+    ensures { out.new.items ≡ (if is_ok result then out.old.items ++ word_line place word.now a b else out.old.items) }
+{
+    out.reserve(LONGEST + word.len())?;
+    put_place(out, place);
+    put(out, b" ");
+    put(out, word.as_bytes());
+    put(out, b": ");
     put_both(out, a, b);
     put(out, b"\n");
     Ok(())

@@ -1,11 +1,11 @@
 -- The examples of picks: FIFO computes, and CLOCK goes by the ways of the hand to the end of the round.
-use Rattle.std.proofs.Common.{◌≡◌, ℕ, ◌+◌, ◌%◌, ◌<◌, ◌≤◌, Bool, true, false, not, ◌&&◌, ◌||◌, eqb, ltb, leb, Some, sym, refl, ap, ◌∙◌, arith}
+use Rattle.std.proofs.Common.{◌≡◌, ℕ, ◌<◌, Bool, true, false, not, ◌&&◌, ltb, leb, Some, sym, refl, ap, ◌∙◌, arith}
 use Rattle.std.proofs.lemmas.Bool.Decides.{nat_tests}
-use Rattle.eviction.specs.Sets.{no_slot, with_slot, without_slot, without_between}
+use Rattle.eviction.specs.Sets.{without_between}
 use Rattle.eviction.specs.Orders.{left_out, oldest}
 use Rattle.eviction.specs.Clocks.{Face, new_clock, clock_put, clock_gone, clock_touch, clock_pick}
 use Rattle.worked.specs.Evicting.{EvictingExamples}
-use Rattle.eviction.proofs.SweepLaws.{Stops, Picked, ends_from, stops_from, ends_stops, picked_from}
+use Rattle.eviction.proofs.SweepLaws.{Picked, ends_from, stops_from, ends_stops, picked_from}
 
 -- slots 0, 1 and 2 are filled and marked
 three : Face

@@ -1,5 +1,5 @@
 -- Examples of what an eviction policy picks.
-use Rattle.std.specs.Prelude.{◌≡◌, ℕ, List, [], Some}
+use Rattle.std.specs.Prelude.{◌≡◌, [], Some}
 use Rattle.eviction.specs.Kinds.{State, of_fifo, of_clock, put_state, gone_state, touch_state, picked_slot, picked_state}
 use Rattle.eviction.specs.Clocks.{new_clock}
 

@@ -53,24 +53,24 @@ good_link : (o : Order) (l : ℕ) → l ≡ 1 → Ok o ≡ by_link o l
 unfolding by_link
 good_link o l n = sym (ap (λ b. cond b (Ok o) (Err (LinkType l))) (eq-eqb l 1 n))
 
-pub returns-in-err-order : goal.returns-in-err-order
-returns-in-err-order c =
-    let p = err_from_is_err_and c.from-residual.result c.from-residual.ensures.1 in
-    rw (p.1, p.2) (ap (checked_header c.args.h.now) c.in-err-order.ensures)
+pub returns-in_err-order : goal.returns-in_err-order
+returns-in_err-order c =
+    let p = err_from_is_err_and c.from_residual.result c.from_residual.ensures.1 in
+    rw (p.1, p.2) (ap (checked_header c.args.h.now) c.in_err-order.ensures)
 
 pub returns-then-version-ne2 : goal.returns-then-version-ne2
 unfolding two
 returns-then-version-ne2 c =
-    bad_version c.args.h.now c.in-ok-order.order c.word-version.result c.in-ok-order.ensures c.word-version.ensures c.if-version-ne2.true
+    bad_version c.args.h.now c.in_ok-order.order c.word-version.result c.in_ok-order.ensures c.word-version.ensures c.if-version-ne2.true
 
 pub returns-then-link-ne1 : goal.returns-then-link-ne1
 unfolding two four
 returns-then-link-ne1 c =
-    bad_link c.in-ok-order.order c.number-link.result c.if-link-ne1.true
-    ∙ good_version c.args.h.now c.in-ok-order.order c.word-version.result c.number-link.result c.in-ok-order.ensures c.word-version.ensures c.if-version-ne2.false c.number-link.ensures
+    bad_link c.in_ok-order.order c.number-link.result c.if-link-ne1.true
+    ∙ good_version c.args.h.now c.in_ok-order.order c.word-version.result c.number-link.result c.in_ok-order.ensures c.word-version.ensures c.if-version-ne2.false c.number-link.ensures
 
 pub returns : goal.returns
 unfolding two four
 returns c =
-    good_link c.in-ok-order.order c.number-link.result c.if-link-ne1.false
-    ∙ good_version c.args.h.now c.in-ok-order.order c.word-version.result c.number-link.result c.in-ok-order.ensures c.word-version.ensures c.if-version-ne2.false c.number-link.ensures
+    good_link c.in_ok-order.order c.number-link.result c.if-link-ne1.false
+    ∙ good_version c.args.h.now c.in_ok-order.order c.word-version.result c.number-link.result c.in_ok-order.ensures c.word-version.ensures c.if-version-ne2.false c.number-link.ensures

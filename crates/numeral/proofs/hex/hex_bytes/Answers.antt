@@ -1,4 +1,4 @@
-use Rattle.std.proofs.Common.{◌≡◌, ℕ, ◌+◌, ◌%◌, ◌<◌, ◌≤◌, true, cond, eqb, List, [], ◌∷◌, ◌++◌, length, get_or, drop, Ok, Err, vec_items, Result, sym, refl, ap, ◌∙◌, arith, rules, eq-eqb}
+use Rattle.std.proofs.Common.{◌≡◌, ℕ, ◌+◌, ◌%◌, ◌<◌, cond, List, [], ◌∷◌, ◌++◌, length, get_or, drop, Ok, Err, vec_items, Result, sym, ap, ◌∙◌, arith, eq-eqb}
 use Rattle.std.proofs.lemmas.Result.{err_from_is_err_and}
 use Rattle.std.proofs.lemmas.List.{drop_more, at_drop_all}
 use Rattle.numeral.specs.declared.hex.HexFault.{HexFault}
@@ -22,21 +22,21 @@ refuses Memory r h = tt
 refuses (Odd n) r h = h
 refuses (Digit at) r h = h
 
-pub returns-in-err-x : goal.returns-in-err-x
-returns-in-err-x c =
-    let p = err_from_is_err_and c.from-residual.result c.from-residual.ensures.1 in
+pub returns-in_err-x : goal.returns-in_err-x
+returns-in_err-x c =
+    let p = err_from_is_err_and c.from_residual.result c.from_residual.ensures.1 in
     rw (p.1, p.2)
-    (refuses c.in-err-x.field-0.0 (hex_of c.args.text.now)
+    (refuses c.in_err-x.field-0.0 (hex_of c.args.text.now)
     (even c.args.text.now (omega arith)
     ∙ sym c.loop-i.invariant.2
-    ∙ two_on (vec_items c.loop-i.out) c.args.text.now c.loop-i.i (Err c.in-err-x.field-0.0) (omega arith) c.in-err-x.ensures))
+    ∙ two_on (vec_items c.loop-i.out) c.args.text.now c.loop-i.i (Err c.in_err-x.field-0.0) (omega arith) c.in_err-x.ensures))
 
 pub loop-i-preserved : goal.loop-i-preserved
 loop-i-preserved c = (
   omega arith,
   omega arith,
-  ap (λ z. pairs_from (c.loop-i.i + 2) z (drop (c.loop-i.i + 2) c.args.text.now)) c.in-ok-push.ensures.items
-      ∙ sym (two_on (vec_items c.loop-i.out) c.args.text.now c.loop-i.i (Ok c.in-ok-x.x) (omega arith) c.in-ok-x.ensures)
+  ap (λ z. pairs_from (c.loop-i.i + 2) z (drop (c.loop-i.i + 2) c.args.text.now)) c.in_ok-push.ensures.items
+      ∙ sym (two_on (vec_items c.loop-i.out) c.args.text.now c.loop-i.i (Ok c.in_ok-x.x) (omega arith) c.in_ok-x.ensures)
       ∙ c.loop-i.invariant.2,
 )
 

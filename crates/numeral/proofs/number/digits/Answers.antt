@@ -1,5 +1,4 @@
-use Rattle.std.proofs.Common.{◌≡◌, ℕ, ◌^◌, ◌<◌, ◌≤◌, cond, List, [], ◌∷◌, length, get_or, drop, None, Ok, Err, Result, sym, refl, ap, ◌∙◌, subst, arith, rules, ne_eqb}
-use Rattle.std.specs.Option.{SomeIff}
+use Rattle.std.proofs.Common.{◌≡◌, ℕ, ◌^◌, ◌<◌, ◌≤◌, cond, List, [], ◌∷◌, length, get_or, drop, None, Ok, Err, Result, sym, refl, ap, ◌∙◌, subst, arith, ne_eqb}
 use Rattle.std.specs.Result.{OkIff, result_ok}
 use Rattle.std.specs.Str.Parse.{IsNumeral, digits_value, without_leading_plus}
 use Rattle.std.specs.Char.{digit_value}
@@ -27,15 +26,15 @@ none (c ∷ cs) h = absurd (omega arith)
 
 pub returns-then-bytes-eq43 : goal.returns-then-bytes-eq43
 returns-then-bytes-eq43 c =
-    let p : Reads 64 c.args.radix c.args.text.now None = λ h. no_plus c.args.radix c.args.text.now c.requires.1 (ap (λ z. get_or z 0 0) (sym c.as-bytes-bytes.ensures.value) ∙ c.if-bytes-eq43.true) h.0 in
+    let p : Reads 64 c.args.radix c.args.text.now None = λ h. no_plus c.args.radix c.args.text.now c.requires.1 (ap (λ z. get_or z 0 0) (sym c.as_bytes-bytes.ensures.value) ∙ c.if-bytes-eq43.true) h.0 in
     record { reads = p; value = read_is c.args.radix c.args.text.now None p }
 
 pub returns : goal.returns
 returns c =
-    let e : c.as-bytes-bytes.result.now ≡ c.args.text.now = c.as-bytes-bytes.ensures.value in
-    let same : without_leading_plus c.as-bytes-bytes.result.now ≡ c.as-bytes-bytes.result.now =
-    elim c.else-bytes-gt0.branch [ else-bytes-gt0-via-then-bytes-gt0+else-bytes-eq43 w ↦ plain c.as-bytes-bytes.result.now w.if-bytes-eq43.false | else-bytes-gt0-via-else-bytes-gt0 w ↦ none c.as-bytes-bytes.result.now w.if-bytes-gt0.false ]
+    let e : c.as_bytes-bytes.result.now ≡ c.args.text.now = c.as_bytes-bytes.ensures.value in
+    let same : without_leading_plus c.as_bytes-bytes.result.now ≡ c.as_bytes-bytes.result.now =
+    elim c.else-bytes-gt0.branch [ else-bytes-gt0-via-then-bytes-gt0+else-bytes-eq43 w ↦ plain c.as_bytes-bytes.result.now w.if-bytes-eq43.false | else-bytes-gt0-via-else-bytes-gt0 w ↦ none c.as_bytes-bytes.result.now w.if-bytes-gt0.false ]
     in
     let p : Reads 64 c.args.radix c.args.text.now c.ok.result = subst (Reads 64 c.args.radix c.args.text.now) (sym c.ok.ensures.value)
-    (at_text 64 c.args.radix c.args.text.now (without_leading_plus c.args.text.now) c.from-str-radix.result (subst (λ z. without_leading_plus z ≡ z) e same) c.from-str-radix.ensures.value) in
+    (at_text 64 c.args.radix c.args.text.now (without_leading_plus c.args.text.now) c.from_str_radix.result (subst (λ z. without_leading_plus z ≡ z) e same) c.from_str_radix.ensures.value) in
     record { reads = p; value = read_is c.args.radix c.args.text.now c.ok.result p }

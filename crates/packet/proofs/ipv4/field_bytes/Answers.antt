@@ -13,10 +13,10 @@ pub returns : goal.returns
 returns c =
     let x = c.args.x in
     rows _ _ _ _ _ _ _ _ _ _ _ _ _ _ _ _ _ _ _ _ _ _ _ _ _ _ _ _ _ _
-    (four _ _ (search rules) c.to-be-bytes.ensures ∙ ap bytes32 c.from-be-bytes-head.ensures ∙ bytes32_joined x.fragment x.protocol x.tos x.ttl (search rules) (search rules) (search rules) (search rules))
-    (two _ _ (search rules) c.to-be-bytes-2.ensures)
-    (four _ _ (search rules) c.to-be-bytes-3.ensures)
-    (four _ _ (search rules) c.to-be-bytes-4.ensures)
-    (two _ _ (search rules) c.to-be-bytes-5.ensures)
-    (two _ _ (search rules) c.to-be-bytes-6.ensures)
+    (four _ _ (search rules) c.to_be_bytes.ensures ∙ ap bytes32 c.from_be_bytes-head.ensures ∙ bytes32_joined x.fragment x.protocol x.tos x.ttl (search rules) (search rules) (search rules) (search rules))
+    (two _ _ (search rules) c.to_be_bytes-2.ensures)
+    (four _ _ (search rules) c.to_be_bytes-3.ensures)
+    (four _ _ (search rules) c.to_be_bytes-4.ensures)
+    (two _ _ (search rules) c.to_be_bytes-5.ensures)
+    (two _ _ (search rules) c.to_be_bytes-6.ensures)
     c.put.ensures c.put-2.ensures c.put-3.ensures c.put-4.ensures c.put-5.ensures c.put-6.ensures

@@ -4,4 +4,4 @@ use Rattle.packet.proofs.Bytes.{long_bytes}
 use Rattle.packet.proofs.ipv4.long_at.Goals as goal
 
 pub returns : goal.returns
-returns c = ap bytes32 c.from-be-bytes.ensures ∙ long_bytes c.args.n.now c.args.i (λ k. omega (arith, c.type-inv.n k)) c.requires
+returns c = ap bytes32 c.from_be_bytes.ensures ∙ long_bytes c.args.n.now c.args.i (λ k. omega (arith, c.type_inv.n k)) c.requires

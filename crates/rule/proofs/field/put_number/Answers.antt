@@ -1,4 +1,4 @@
-use Rattle.std.proofs.Common.{◌≡◌, ℕ, ◌-◌, ◌≤◌, List, length, take, drop, refl, ap, ◌∙◌, arith}
+use Rattle.std.proofs.Common.{◌≡◌, ℕ, ◌-◌, List, length, take, drop, refl, ap, ◌∙◌, arith}
 use Rattle.std.proofs.lemmas.List.{take_all, length-drop}
 use Rattle.rule.specs.Rows.{placed, with_number}
 use Rattle.rule.proofs.field.put_number.Goals as goal
@@ -14,4 +14,4 @@ pub returns : goal.returns
 unfolding with_number
 returns c =
     c.put.ensures
-    ∙ ap (λ z. placed c.args.field.at z c.args.row.now) (whole_rest (8 - c.args.field.len) c.to-be-bytes-bytes.result _ c.to-be-bytes-bytes.ensures refl)
+    ∙ ap (λ z. placed c.args.field.at z c.args.row.now) (whole_rest (8 - c.args.field.len) c.to_be_bytes-bytes.result _ c.to_be_bytes-bytes.ensures refl)

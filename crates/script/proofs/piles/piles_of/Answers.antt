@@ -5,7 +5,7 @@ use Rattle.script.proofs.piles.piles_of.Goals as goal
 
 pub loop-numbered-preserved : goal.loop-numbered-preserved
 loop-numbered-preserved c =
-    said_next c.loop-numbered.piles c.set-up-piles.result c.args.script.now c.loop-numbered.numbered-index c.numbered-item.result c.loop-numbered-test.true (c.set-up-piles.ensures ∙ ap (λ r. set_up c.loop-numbered.piles r.statement) c.numbered-item.is)
+    said_next c.loop-numbered.piles c.set_up-piles.result c.args.script.now c.loop-numbered.numbered-index c.numbered-item.result c.loop-numbered-test.true (c.set_up-piles.ensures ∙ ap (λ r. set_up c.loop-numbered.piles r.statement) c.numbered-item.is)
     ∙ c.loop-numbered.invariant
 
 pub returns : goal.returns

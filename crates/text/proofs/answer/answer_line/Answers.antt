@@ -6,5 +6,5 @@ use Rattle.text.proofs.answer.answer_line.Goals as goal
 pub returns : goal.returns
 unfolding answer_line
 returns c =
-    let t = then (then c.put-start.ensures.items c.put-both.ensures.items) c.put.ensures.items in
+    let t = then (then c.put_start.ensures.items c.put_both.ensures.items) c.put.ensures.items in
     t.is ∙ ap (λ z. z ++ answer_line c.args.place c.args.verb c.args.a c.args.b) c.reserve.ensures.items

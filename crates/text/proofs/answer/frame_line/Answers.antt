@@ -6,5 +6,5 @@ use Rattle.text.proofs.answer.frame_line.Goals as goal
 pub returns : goal.returns
 unfolding frame_line
 returns c =
-    let t = then (then c.put-start.ensures.items c.put-forwarded.ensures.items) c.put.ensures.items in
-    t.is ∙ ap (λ z. z ++ frame_line c.args.place c.args.a c.args.b c.args.depth-a c.args.depth-b) c.reserve.ensures.items
+    let t = then (then c.put_start.ensures.items c.put_forwarded.ensures.items) c.put.ensures.items in
+    t.is ∙ ap (λ z. z ++ frame_line c.args.place c.args.a c.args.b c.args.depth_a c.args.depth_b) c.reserve.ensures.items

@@ -6,5 +6,5 @@ use Rattle.text.proofs.answer.peek_line.Goals as goal
 pub returns : goal.returns
 unfolding peek_line
 returns c =
-    let t = then (then c.put-start.ensures.items c.put-peeked.ensures.items) c.put.ensures.items in
-    t.is ∙ ap (λ z. z ++ peek_line c.args.place c.args.a c.args.b c.args.mask-a.now c.args.mask-b.now) c.reserve.ensures.items
+    let t = then (then c.put_start.ensures.items c.put_peeked.ensures.items) c.put.ensures.items in
+    t.is ∙ ap (λ z. z ++ peek_line c.args.place c.args.a c.args.b c.args.mask_a.now c.args.mask_b.now) c.reserve.ensures.items

@@ -6,7 +6,7 @@ use Rattle.text.proofs.answer.put_both.Goals as goal
 pub returns-then-same : goal.returns-then-same
 returns-then-same c =
     record {
-      items = as_text (one_said c.args.a c.args.b (sym c.if-same.ensures)) c.put-said.ensures.items;
+      items = as_text (one_said c.args.a c.args.b (sym c.if-same.ensures)) c.put_said.ensures.items;
       len = omega arith;
       capacity = omega arith;
     }
@@ -14,7 +14,7 @@ returns-then-same c =
 pub returns : goal.returns
 returns c =
     record {
-      items = as_text (both_said c.args.a c.args.b (sym c.if-same.ensures)) (then (then (then c.put.ensures.items c.put-said-2.ensures.items) c.put-2.ensures.items) c.put-said-3.ensures.items);
+      items = as_text (both_said c.args.a c.args.b (sym c.if-same.ensures)) (then (then (then c.put.ensures.items c.put_said-2.ensures.items) c.put-2.ensures.items) c.put_said-3.ensures.items);
       len = omega arith;
       capacity = omega arith;
     }

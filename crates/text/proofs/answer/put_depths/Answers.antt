@@ -7,7 +7,7 @@ pub returns : goal.returns
 unfolding depths_text
 returns c =
     record {
-      items = then (then (then c.put.ensures.items c.put-byte.ensures.items) c.put-2.ensures.items) c.put-byte-2.ensures.items;
+      items = then (then (then c.put.ensures.items c.put_byte.ensures.items) c.put-2.ensures.items) c.put_byte-2.ensures.items;
       len = omega arith;
       capacity = omega arith;
     }

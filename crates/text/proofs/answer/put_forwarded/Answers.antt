@@ -3,20 +3,20 @@ use Rattle.text.specs.Answers.{same_ports, both_text, depths_text, forwarded_tex
 use Rattle.text.proofs.Both.{shown, hidden}
 use Rattle.text.proofs.answer.put_forwarded.Goals as goal
 
-pub returns-then-name-same : goal.returns-then-name-same
+pub returns-then-name_same : goal.returns-then-name_same
 unfolding forwarded_text
-returns-then-name-same c =
+returns-then-name_same c =
     record {
-      items = shown (same_ports c.args.a c.args.b) (both_text c.args.a c.args.b) (depths_text c.args.depth-a c.args.depth-b) c.if-name-same.ensures c.put-both.ensures.items c.put-depths.ensures.items;
+      items = shown (same_ports c.args.a c.args.b) (both_text c.args.a c.args.b) (depths_text c.args.depth_a c.args.depth_b) c.if-name_same.ensures c.put_both.ensures.items c.put_depths.ensures.items;
       len = omega arith;
       capacity = omega arith;
     }
 
-pub returns-else-name-same : goal.returns-else-name-same
+pub returns-else-name_same : goal.returns-else-name_same
 unfolding forwarded_text
-returns-else-name-same c =
+returns-else-name_same c =
     record {
-      items = hidden (same_ports c.args.a c.args.b) (both_text c.args.a c.args.b) (depths_text c.args.depth-a c.args.depth-b) c.if-name-same.ensures c.put-both.ensures.items;
+      items = hidden (same_ports c.args.a c.args.b) (both_text c.args.a c.args.b) (depths_text c.args.depth_a c.args.depth_b) c.if-name_same.ensures c.put_both.ensures.items;
       len = omega arith;
       capacity = omega arith;
     }

@@ -9,7 +9,7 @@ pub loop-i-init : goal.loop-i-init
 loop-i-init c = (no_bytes (vec_items c.args.out.now) c.args.mask.now, omega arith, omega arith)
 
 pub loop-i-preserved : goal.loop-i-preserved
-loop-i-preserved c = (one_byte c.args.mask.now c.loop-i.i (omega arith) c.loop-i.invariant.0 c.put-hex2.ensures.items, omega arith, omega arith)
+loop-i-preserved c = (one_byte c.args.mask.now c.loop-i.i (omega arith) c.loop-i.invariant.0 c.put_hex2.ensures.items, omega arith, omega arith)
 
 pub returns : goal.returns
 returns c =

@@ -7,7 +7,7 @@ pub returns : goal.returns
 unfolding masks_text
 returns c =
     record {
-      items = then (then (then c.put.ensures.items c.put-mask.ensures.items) c.put-2.ensures.items) c.put-mask-2.ensures.items;
+      items = then (then (then c.put.ensures.items c.put_mask.ensures.items) c.put-2.ensures.items) c.put_mask-2.ensures.items;
       len = omega arith;
       capacity = omega arith;
     }

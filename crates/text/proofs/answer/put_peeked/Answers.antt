@@ -3,20 +3,20 @@ use Rattle.text.specs.Answers.{same_ports, both_text, masks_text, peeked_text}
 use Rattle.text.proofs.Both.{shown, hidden}
 use Rattle.text.proofs.answer.put_peeked.Goals as goal
 
-pub returns-then-name-same : goal.returns-then-name-same
+pub returns-then-name_same : goal.returns-then-name_same
 unfolding peeked_text
-returns-then-name-same c =
+returns-then-name_same c =
     record {
-      items = shown (same_ports c.args.a c.args.b) (both_text c.args.a c.args.b) (masks_text c.args.mask-a.now c.args.mask-b.now) c.if-name-same.ensures c.put-both.ensures.items c.put-masks.ensures.items;
+      items = shown (same_ports c.args.a c.args.b) (both_text c.args.a c.args.b) (masks_text c.args.mask_a.now c.args.mask_b.now) c.if-name_same.ensures c.put_both.ensures.items c.put_masks.ensures.items;
       len = omega arith;
       capacity = omega arith;
     }
 
-pub returns-else-name-same : goal.returns-else-name-same
+pub returns-else-name_same : goal.returns-else-name_same
 unfolding peeked_text
-returns-else-name-same c =
+returns-else-name_same c =
     record {
-      items = hidden (same_ports c.args.a c.args.b) (both_text c.args.a c.args.b) (masks_text c.args.mask-a.now c.args.mask-b.now) c.if-name-same.ensures c.put-both.ensures.items;
+      items = hidden (same_ports c.args.a c.args.b) (both_text c.args.a c.args.b) (masks_text c.args.mask_a.now c.args.mask_b.now) c.if-name_same.ensures c.put_both.ensures.items;
       len = omega arith;
       capacity = omega arith;
     }

@@ -9,7 +9,7 @@ returns-else-ports-port-eq0 c =
     record {
       items =
           as_text (behind_comma c.args.ports c.args.port _ c.if-ports-port-ne1.false c.if-ports-port-eq0.false (one_shl c.args.port 64 (omega arith)))
-          (then c.put.ensures.items c.put-byte-else-ports-port-eq0.ensures.items);
+          (then c.put.ensures.items c.put_byte-else-ports-port-eq0.ensures.items);
       len = omega arith;
       capacity = omega arith;
     }

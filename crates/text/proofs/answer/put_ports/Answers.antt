@@ -15,7 +15,7 @@ pub loop-port-init : goal.loop-port-init
 loop-port-init c = (none_below c.args.ports (vec_items c.args.out.now), omega arith, omega arith)
 
 pub loop-port-preserved : goal.loop-port-preserved
-loop-port-preserved c = (one_more c.args.ports c.loop-port.port c.loop-port.invariant.0 c.put-port.ensures.items, omega arith, omega arith)
+loop-port-preserved c = (one_more c.args.ports c.loop-port.port c.loop-port.invariant.0 c.put_port.ensures.items, omega arith, omega arith)
 
 pub returns : goal.returns
 returns c =

@@ -8,7 +8,7 @@ pub returns : goal.returns
 unfolding rule_text
 returns c =
     record {
-      items = then (then (then (then c.put.ensures.items (as_text (ap decimal_text c.from.ensures) c.put-number.ensures.items)) c.put-2.ensures.items) (as_text (ap decimal_text c.from-2.ensures) c.put-number-2.ensures.items)) c.put-3.ensures.items;
+      items = then (then (then (then c.put.ensures.items (as_text (ap decimal_text c.from.ensures) c.put_number.ensures.items)) c.put-2.ensures.items) (as_text (ap decimal_text c.from-2.ensures) c.put_number-2.ensures.items)) c.put-3.ensures.items;
       len = omega arith;
       capacity = omega arith;
     }

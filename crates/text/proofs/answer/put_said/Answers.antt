@@ -16,7 +16,7 @@ pub returns-in-Count : goal.returns-in-Count
 unfolding said_text
 returns-in-Count c =
     record {
-      items = as_text (sym (ap said_text c.in-Count.is)) (then c.put-in-Count.ensures.items c.put-number.ensures.items);
+      items = as_text (sym (ap said_text c.in-Count.is)) (then c.put-in-Count.ensures.items c.put_number.ensures.items);
       len = omega arith;
       capacity = omega arith;
     }
@@ -25,7 +25,7 @@ pub returns-in-Ports : goal.returns-in-Ports
 unfolding said_text
 returns-in-Ports c =
     record {
-      items = as_text (sym (ap said_text c.in-Ports.is)) (then c.put-in-Ports.ensures.items c.put-ports.ensures.items);
+      items = as_text (sym (ap said_text c.in-Ports.is)) (then c.put-in-Ports.ensures.items c.put_ports.ensures.items);
       len = omega arith;
       capacity = omega arith;
     }
@@ -34,7 +34,7 @@ pub returns-in-Refused : goal.returns-in-Refused
 unfolding said_text
 returns-in-Refused c =
     record {
-      items = as_text (sym (ap said_text c.in-Refused.is)) c.put-refusal.ensures.items;
+      items = as_text (sym (ap said_text c.in-Refused.is)) c.put_refusal.ensures.items;
       len = omega arith;
       capacity = omega arith;
     }

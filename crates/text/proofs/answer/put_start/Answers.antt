@@ -7,7 +7,7 @@ pub returns : goal.returns
 unfolding start_text
 returns c =
     record {
-      items = then (then (then c.put-place.ensures.items c.put.ensures.items) c.put-verb.ensures.items) c.put-2.ensures.items;
+      items = then (then (then c.put_place.ensures.items c.put.ensures.items) c.put_verb.ensures.items) c.put-2.ensures.items;
       len = omega arith;
       capacity = omega arith;
     }

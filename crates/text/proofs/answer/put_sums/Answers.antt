@@ -7,7 +7,7 @@ pub returns : goal.returns
 unfolding sums_text
 returns c =
     record {
-      items = then (then (then (then (then (then (then c.put.ensures.items c.put-number.ensures.items) c.put-2.ensures.items) c.put-number-2.ensures.items) c.put-3.ensures.items) c.put-number-3.ensures.items) c.put-4.ensures.items) c.put-number-4.ensures.items;
+      items = then (then (then (then (then (then (then c.put.ensures.items c.put_number.ensures.items) c.put-2.ensures.items) c.put_number-2.ensures.items) c.put-3.ensures.items) c.put_number-3.ensures.items) c.put-4.ensures.items) c.put_number-4.ensures.items;
       len = omega arith;
       capacity = omega arith;
     }

@@ -6,5 +6,5 @@ use Rattle.text.proofs.answer.report_line.Goals as goal
 pub returns : goal.returns
 unfolding report_line
 returns c =
-    let t = then (then (then c.put-start.ensures.items c.put-rule.ensures.items) c.put-both.ensures.items) c.put.ensures.items in
+    let t = then (then (then c.put_start.ensures.items c.put_rule.ensures.items) c.put_both.ensures.items) c.put.ensures.items in
     t.is ∙ ap (λ z. z ++ report_line c.args.place c.args.table c.args.id c.args.a c.args.b) c.reserve.ensures.items

@@ -6,5 +6,5 @@ use Rattle.text.proofs.answer.totals_line.Goals as goal
 pub returns : goal.returns
 unfolding totals_line
 returns c =
-    let t = then (then (then (then (then c.put-start.ensures.items c.put.ensures.items) c.put-sums.ensures.items) c.put-2.ensures.items) c.put-sums-2.ensures.items) c.put-3.ensures.items in
+    let t = then (then (then (then (then c.put_start.ensures.items c.put.ensures.items) c.put_sums.ensures.items) c.put-2.ensures.items) c.put_sums-2.ensures.items) c.put-3.ensures.items in
     t.is ∙ ap (λ z. z ++ totals_line c.args.place c.args.a c.args.b) c.reserve.ensures.items

@@ -11,9 +11,9 @@ returns-in-Ok c =
     let h = c.in-Ok.ensures in
     record {
       items =
-          as_text {a = vec_items c.args.out.now} {b = vec_items c.put-reading.new.out}
+          as_text {a = vec_items c.args.out.now} {b = vec_items c.put_reading.new.out}
           (read_text c.args.port c.args.frame.now c.in-Ok.reading.key (option_map span_of c.in-Ok.reading.ipv4) (option_map span_of c.in-Ok.reading.transport) h.0 h.1 h.2 h.3)
-          c.put-reading.ensures.items;
+          c.put_reading.ensures.items;
       len = omega arith;
       capacity = omega arith;
     }
@@ -22,9 +22,9 @@ pub returns-in-Err : goal.returns-in-Err
 returns-in-Err c =
     record {
       items =
-          as_text {a = vec_items c.args.out.now} {b = vec_items c.put-refusal.new.out}
+          as_text {a = vec_items c.args.out.now} {b = vec_items c.put_refusal.new.out}
           (refused_text c.args.port c.args.frame.now (refusal_of c.in-Err.fault) c.number.result c.detail.result c.in-Err.ensures c.number.ensures c.detail.ensures)
-          c.put-refusal.ensures.items;
+          c.put_refusal.ensures.items;
       len = omega arith;
       capacity = omega arith;
     }

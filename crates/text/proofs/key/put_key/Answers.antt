@@ -7,7 +7,7 @@ pub returns : goal.returns
 unfolding key_text
 returns c =
     record {
-      items = then (then c.put-link.ensures.items c.put-network.ensures.items) c.put-addresses.ensures.items;
+      items = then (then c.put_link.ensures.items c.put_network.ensures.items) c.put_addresses.ensures.items;
       len = omega arith;
       capacity = omega arith;
     }

@@ -7,7 +7,7 @@ pub returns : goal.returns
 unfolding network_text
 returns c =
     record {
-      items = then (then (then (then (then (then (then (then (then c.put.ensures.items c.put-byte.ensures.items) c.put-2.ensures.items) c.put-byte-2.ensures.items) c.put-3.ensures.items) c.put-byte-3.ensures.items) c.put-4.ensures.items) c.put-byte-4.ensures.items) c.put-5.ensures.items) c.put-flags.ensures.items;
+      items = then (then (then (then (then (then (then (then (then c.put.ensures.items c.put_byte.ensures.items) c.put-2.ensures.items) c.put_byte-2.ensures.items) c.put-3.ensures.items) c.put_byte-3.ensures.items) c.put-4.ensures.items) c.put_byte-4.ensures.items) c.put-5.ensures.items) c.put_flags.ensures.items;
       len = omega arith;
       capacity = omega arith;
     }

@@ -11,7 +11,7 @@ returns-in-Some c =
     record {
       items =
           as_text (sym (ap (λ o. part_text (option_map span_of o)) c.in-Some.is))
-          (then (then c.put-number.ensures.items c.put.ensures.items) c.put-number-in-Some.ensures.items);
+          (then (then c.put_number.ensures.items c.put.ensures.items) c.put_number-in-Some.ensures.items);
       len = omega arith;
       capacity = omega arith;
     }

@@ -7,7 +7,7 @@ pub returns : goal.returns
 unfolding reading_text
 returns c =
     record {
-      items = then (then (then (then c.put-key.ensures.items c.put.ensures.items) c.put-part.ensures.items) c.put-2.ensures.items) c.put-part-2.ensures.items;
+      items = then (then (then (then c.put_key.ensures.items c.put.ensures.items) c.put_part.ensures.items) c.put-2.ensures.items) c.put_part-2.ensures.items;
       len = omega arith;
       capacity = omega arith;
     }

@@ -10,7 +10,7 @@ returns-in-Some c =
     record {
       items =
           as_text (sym (ap (λ o. frame_text o (decimal_text c.args.place.line)) c.in-Some.is))
-          (then (then c.put-number.ensures.items c.put.ensures.items) c.put-number-in-Some.ensures.items);
+          (then (then c.put_number.ensures.items c.put.ensures.items) c.put_number-in-Some.ensures.items);
       len = omega arith;
       capacity = omega arith;
     }
@@ -19,7 +19,7 @@ pub returns-in-None : goal.returns-in-None
 unfolding place_text
 returns-in-None c =
     record {
-      items = as_text (sym (ap (λ o. frame_text o (decimal_text c.args.place.line)) c.in-None.is)) c.put-number.ensures.items;
+      items = as_text (sym (ap (λ o. frame_text o (decimal_text c.args.place.line)) c.in-None.is)) c.put_number.ensures.items;
       len = omega arith;
       capacity = omega arith;
     }

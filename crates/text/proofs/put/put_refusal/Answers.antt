@@ -7,7 +7,7 @@ pub returns : goal.returns
 unfolding refusal_text
 returns c =
     record {
-      items = then (then (then (then c.put.ensures.items c.put-byte.ensures.items) c.put-2.ensures.items) c.put-number.ensures.items) c.put-3.ensures.items;
+      items = then (then (then (then c.put.ensures.items c.put_byte.ensures.items) c.put-2.ensures.items) c.put_number.ensures.items) c.put-3.ensures.items;
       len = omega arith;
       capacity = omega arith;
     }

@@ -15,8 +15,8 @@ returns-in-Some c =
       capacity = search rules;
     }
 
-pub returns-in-default : goal.returns-in-default
-returns-in-default c =
+pub returns-in_default : goal.returns-in_default
+returns-in_default c =
     let xs = vec_items c.args.order.now in
     let e = c.deref.ensures.value in
-    record { order = left_from xs xs c.args.slot c.requires (sym e ∙ sym c.in-default.ensures ∙ ap (λ ys. left_out ys c.args.slot) e); capacity = search rules }
+    record { order = left_from xs xs c.args.slot c.requires (sym e ∙ sym c.in_default.ensures ∙ ap (λ ys. left_out ys c.args.slot) e); capacity = search rules }

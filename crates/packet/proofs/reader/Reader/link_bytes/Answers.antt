@@ -1,6 +1,4 @@
-use Rattle.std.proofs.Common.{◌≡◌, ℕ, List, [], ◌∷◌, map, length, replicate, sym, ap, ◌∙◌, ap₂, arith, rules}
-use Rattle.std.specs.List.{range_with_len}
-use Rattle.packet.specs.Frames.{byte}
+use Rattle.std.proofs.Common.{◌≡◌, ℕ, List, [], ◌∷◌, length, replicate, sym, ap, ◌∙◌, ap₂, rules}
 use Rattle.packet.specs.Layout.{put_at}
 use Rattle.packet.proofs.Bytes.{two}
 use Rattle.packet.proofs.Keys.{address, link_laid}
@@ -16,6 +14,6 @@ returns c =
     let x = c.args.self.now in
     let d : length x.destination ≡ 6 = search rules in
     let s : length x.source ≡ 6 = search rules in
-    rows _ _ _ _ _ _ _ _ _ _ _ _ _ _ _ _ _ _ _ _ _ _ _ _ _ _ _ _ (two _ _ (search rules) c.to-be-bytes.ensures) (sym (address x.destination d)) (sym (address x.source s))
-    (two _ _ (search rules) c.to-be-bytes-2.ensures) (two _ _ (search rules) c.to-be-bytes-3.ensures) c.put.ensures c.put-2.ensures c.put-3.ensures c.put-4.ensures c.put-5.ensures
-    ∙ link_laid x.in_port x.ethertype x.vlan c.key-type.result x.destination x.source d s c.key-type.ensures
+    rows _ _ _ _ _ _ _ _ _ _ _ _ _ _ _ _ _ _ _ _ _ _ _ _ _ _ _ _ (two _ _ (search rules) c.to_be_bytes.ensures) (sym (address x.destination d)) (sym (address x.source s))
+    (two _ _ (search rules) c.to_be_bytes-2.ensures) (two _ _ (search rules) c.to_be_bytes-3.ensures) c.put.ensures c.put-2.ensures c.put-3.ensures c.put-4.ensures c.put-5.ensures
+    ∙ link_laid x.in_port x.ethertype x.vlan c.key_type.result x.destination x.source d s c.key_type.ensures

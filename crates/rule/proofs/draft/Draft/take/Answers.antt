@@ -32,6 +32,6 @@ pub returns-in-value : goal.returns-in-value
 returns-in-value c =
     subst (Turns c.args.self.now c.value.new.self c.value.result) (at_value c.args.self.now (cut_at 61 c.args.word.now) (c.in-Some.name.now, c.in-Some.text.now) c.in-Some.ensures c.in-value.is) c.value.ensures
 
-pub returns-in-default-name : goal.returns-in-default-name
-returns-in-default-name c =
-    subst (Turns c.args.self.now c.field.new.self c.field.result) (at_field c.args.self.now (cut_at 61 c.args.word.now) (c.in-Some.name.now, c.in-Some.text.now) c.in-Some.ensures c.in-default-name.not-IsTable c.in-default-name.not-id c.in-default-name.not-priority c.in-default-name.not-next c.in-default-name.not-ports c.in-default-name.not-mask c.in-default-name.not-value) c.field.ensures
+pub returns-in_default-name : goal.returns-in_default-name
+returns-in_default-name c =
+    subst (Turns c.args.self.now c.field.new.self c.field.result) (at_field c.args.self.now (cut_at 61 c.args.word.now) (c.in-Some.name.now, c.in-Some.text.now) c.in-Some.ensures c.in_default-name.not-table c.in_default-name.not-id c.in_default-name.not-priority c.in_default-name.not-next c.in_default-name.not-ports c.in_default-name.not-mask c.in_default-name.not-value) c.field.ensures

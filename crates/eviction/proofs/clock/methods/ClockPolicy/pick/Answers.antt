@@ -14,30 +14,30 @@ returns-then-self-eq0 c =
 pub returns-in-Some : goal.returns-in-Some
 returns-in-Some c =
     let k = c.args.self.now in
-    let d = face c.to-end.new.clock in
+    let d = face c.to_end.new.clock in
     let w = stops_from (face k) d c.in-Some.slot k.round k.marked c.in-Some.ensures in
     let p = picked_from (face k) d c.in-Some.slot k.round (λ i. in_set_below 128 k.filled i k.wide) w in
     record { set = p.kept; named = p.named; picked = p.slot; clock = p.clock }
 
-pub returns-in-Some-to-end : goal.returns-in-Some-to-end
-returns-in-Some-to-end c =
+pub returns-in-Some-to_end : goal.returns-in-Some-to_end
+returns-in-Some-to_end c =
     let k = c.args.self.now in
-    let m = c.to-end.new.clock in
-    let e = face c.to-end-2.new.clock in
-    let s = c.in-Some-to-end.slot in
-    let w = ends_stops (face k) (face m) e s (ends_from (face k) (face m) k.round k.marked c.in-default.ensures) (stops_from (face m) e s m.round m.marked c.in-Some-to-end.ensures) in
+    let m = c.to_end.new.clock in
+    let e = face c.to_end-2.new.clock in
+    let s = c.in-Some-to_end.slot in
+    let w = ends_stops (face k) (face m) e s (ends_from (face k) (face m) k.round k.marked c.in_default.ensures) (stops_from (face m) e s m.round m.marked c.in-Some-to_end.ensures) in
     let p = picked_from (face k) e s k.round (λ i. in_set_below 128 k.filled i k.wide) w in
     record { set = p.kept; named = p.named; picked = p.slot; clock = p.clock }
 
 pub returns : goal.returns
 returns c =
     let k = c.args.self.now in
-    let m = c.to-end.new.clock in
-    let n = c.to-end-2.new.clock in
+    let m = c.to_end.new.clock in
+    let n = c.to_end-2.new.clock in
     let p =
-    picked_third (face k) (face m) (face n) (face c.to-end-3.new.clock) c.to-end-3.result k.round
+    picked_third (face k) (face m) (face n) (face c.to_end-3.new.clock) c.to_end-3.result k.round
     (λ i. in_set_below 128 k.filled i k.wide) (in_set_some k.filled k.wide c.if-self-eq0.false)
-    (ends_from (face k) (face m) k.round k.marked c.in-default.ensures)
-    (ends_from (face m) (face n) m.round m.marked c.in-default-to-end.ensures)
-    n.round n.marked c.to-end-3.ensures in
+    (ends_from (face k) (face m) k.round k.marked c.in_default.ensures)
+    (ends_from (face m) (face n) m.round m.marked c.in_default-to_end.ensures)
+    n.round n.marked c.to_end-3.ensures in
     record { set = p.kept; named = p.named; picked = p.slot; clock = p.clock }
