@@ -1,5 +1,5 @@
 -- What a book holds after a call: its line, and whether the answers differed.
-use Rattle.std.specs.Prelude.{◌≡◌, ℕ, Bool, true, cond, not, ◌||◌, List, ◌++◌, None, vec_items}
+use Rattle.std.specs.Prelude.{◌≡◌, ℕ, Bool, cond, not, ◌||◌, List, ◌++◌, None, vec_items}
 use Rattle.text.specs.declared.answer.Answer.{Answer}
 use Rattle.text.specs.declared.place.Place.{Place}
 use Rattle.text.specs.Answers.{same_answer}
