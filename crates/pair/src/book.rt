@@ -53,10 +53,8 @@ impl Book {
         ensures out { self.new.out ≡ self.old.out }
         ensures differed { self.new.differed ≡ self.old.differed }
     {
-        match self.standing.insert(Name { table, id }) {
-            Ok(_) => Ok(()),
-            Err(_) => Err(AllocError),
-        }
+        self.standing.insert(Name { table, id })?;
+        Ok(())
     }
 
     // It stands no more.
