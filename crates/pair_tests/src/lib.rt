@@ -11,7 +11,7 @@ mod tests {
     use pair::switches::Switches;
     use std::test::Fail;
     use switch::Switch;
-    use text::answer::{Answer, Verb, answer_line};
+    use text::answer::{Answer, Verb, answer_line, word_line};
     use text::place::Place;
 
     // Every frame goes to port 2.
@@ -109,6 +109,23 @@ mod tests {
         assert_eq!(rt;
             text_of(&book)?,
             "9 add: differ A=ok B=refused 11 (7)\n9 count: count=17\n"
+        );
+        Ok(())
+    }
+
+    #[test]
+    fn lines_of_any_word(rt: HostRuntime) -> Result<(), Fail> {
+        let mut book = Book::new(rt.alloc(), 100)?;
+        let place = Place {
+            line: 9,
+            frame: Some(2),
+        };
+        let out = &mut book.out;
+        word_line(out, place, "credit", Answer::Done, Answer::Done)?;
+        word_line(out, place, "", Answer::Ports(6), Answer::Count(0))?;
+        assert_eq!(rt;
+            text_of(&book)?,
+            "9.2 credit: ok\n9.2 : differ A=ports=1,2 B=count=0\n"
         );
         Ok(())
     }
