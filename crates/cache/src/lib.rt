@@ -3,4 +3,4 @@
 
 pub mod slot;
 
-pub use slot::{Answer, Slot};
+pub use slot::{Answer, Entry, Slot};

@@ -1,9 +1,14 @@
 -- The headers of a classic packet capture, over their bytes.
-use Rattle.std.specs.Prelude.{ℕ, ◌+◌, ◌*◌, Bool, cond, ◌||◌, List, Ok, Err, Result, ◌==◌, slice_index}
+use Rattle.std.specs.Prelude.{ℕ, ◌+◌, ◌*◌, Bool, cond, ◌||◌, List, reverse, Ok, Err, Result, ◌==◌, slice_index}
 use Rattle.capture.specs.declared.header.Order.{Order}
 use Rattle.capture.specs.declared.header.Order.TheVariants.{Big, Little}
 use Rattle.capture.specs.declared.header.HeaderFault.{HeaderFault}
 use Rattle.capture.specs.declared.header.HeaderFault.TheVariants.{Pcapng, Magic, Version, LinkType}
+
+-- the bytes of a number, the most significant first
+abbrev pub big_first : Order → List ℕ → List ℕ
+big_first Big bytes = bytes
+big_first Little bytes = reverse bytes
 
 -- the 16-bit number at a place
 abbrev pub word_at : Order → List ℕ → ℕ → ℕ

@@ -1,2 +1,3 @@
 pub mod Captures
+pub mod Records
 pub mod Steps

@@ -1,12 +1,11 @@
 -- Reading a capture, a record at a time: what a step leaves, and where it says that it stopped.
-use Rattle.std.specs.Prelude.{◌≡◌, ℕ, ◌+◌, ◌-◌, ◌^◌, ◌<◌, ◌≤◌, min, Bool, true, false, Ok, Err, vec_len, Result}
+use Rattle.std.specs.Prelude.{◌≡◌, ℕ, ◌+◌, ◌-◌, ◌^◌, ◌<◌, ◌≤◌, min, Some, None, Ok, Err, vec_len, Option, Result}
 use Rattle.capture.specs.declared.reader.Capture.{Capture}
 use Rattle.capture.specs.declared.reader.CaptureFault.{CaptureFault}
 use Rattle.capture.specs.declared.reader.CaptureFault.TheVariants.{Memory, Read, ShortHeader, Header, CutHeader, TooLong, CutFrame}
 
 -- a capture whose file header was read: no record yet, the first begins at byte 24, and there is room for the longest
 pub record Begins (c : Capture) : Type 0 where
-  pub len : c.len ≡ 0
   pub records : c.records ≡ 0
   pub at : c.at ≡ 24
   pub room : vec_len c.buffer ≡ 262144
@@ -35,19 +34,18 @@ pub record Keeps (c d : Capture) : Type 0 where
   pub order : d.order ≡ c.order
   pub room : vec_len d.buffer ≡ vec_len c.buffer
 
--- a record was read: it is counted, and the next begins behind its header of 16 bytes and its frame
-pub record Moves (c d : Capture) : Type 0 where
+-- a frame of so many bytes was read: it is counted, and the next record begins behind its header of 16 bytes and the frame
+pub record Moves (c d : Capture) (len : ℕ) : Type 0 where
   pub keeps : Keeps c d
   pub records : d.records ≡ next_record c
-  pub at : d.at ≡ up_to (up_to c.at 16) d.len
-  pub fits : d.len ≤ vec_len d.buffer
+  pub at : d.at ≡ up_to (up_to c.at 16) len
+  pub fits : len ≤ vec_len d.buffer
 
 -- no record was read, and the place stays
 pub record Stays (c d : Capture) : Type 0 where
   pub keeps : Keeps c d
   pub records : d.records ≡ c.records
   pub at : d.at ≡ c.at
-  pub len : d.len ≡ c.len
 
 -- a fault names the record and where it begins, and a number that is a fault
 abbrev pub Tells : Capture → CaptureFault → Type 0
@@ -59,7 +57,8 @@ Tells c (CutHeader k at got) = (k ≡ next_record c) × (at ≡ c.at) × (0 < go
 Tells c (TooLong k at captured) = (k ≡ next_record c) × (at ≡ c.at) × (vec_len c.buffer < captured)
 Tells c (CutFrame k at captured got) = (k ≡ next_record c) × (at ≡ c.at) × (got < captured)
 
-abbrev pub Steps : Capture → Capture → Result Bool CaptureFault → Type 0
-Steps c d (Ok true) = Moves c d
-Steps c d (Ok false) = Stays c d
+-- what reading a frame leaves, and its length
+abbrev pub Steps : Capture → Capture → Result (Option ℕ) CaptureFault → Type 0
+Steps c d (Ok (Some len)) = Moves c d len
+Steps c d (Ok None) = Stays c d
 Steps c d (Err e) = Stays c d × Tells c e

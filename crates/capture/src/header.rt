@@ -1,6 +1,6 @@
 // The headers of a classic pcap file, of either byte order, with Ethernet frames.
 ghost use Rattle.std.specs.Prelude.{◌≡◌};
-ghost use Rattle.capture.specs.Captures.{word_at, number_at, is_magic, order_by_magic, order_of, captured_of};
+ghost use Rattle.capture.specs.Captures.{big_first, number_at, is_magic, order_by_magic, order_of, captured_of};
 
 use std::fmt;
 
@@ -46,23 +46,22 @@ impl fmt::Display for HeaderFault {
     }
 }
 
-// The number that two bytes write.
-fn word(order: Order, bytes: [u8; 2]) -> u16
-    ensures { result ≡ word_at order bytes 0 }
-{
-    match order {
-        Order::Big => u16::from_be_bytes(bytes),
-        Order::Little => u16::from_le_bytes(bytes),
+impl Order {
+    // The bytes of a number, the most significant first.
+    fn big_first<const N: usize>(self, mut bytes: [u8; N]) -> [u8; N]
+        ensures { result ≡ big_first self bytes.entry }
+    {
+        if self == Order::Little {
+            bytes.reverse();
+        }
+        bytes
     }
-}
 
-// The number that four bytes write.
-fn number(order: Order, bytes: [u8; 4]) -> u32
-    ensures { result ≡ number_at order bytes 0 }
-{
-    match order {
-        Order::Big => u32::from_be_bytes(bytes),
-        Order::Little => u32::from_le_bytes(bytes),
+    // The number that four bytes write.
+    fn number(self, bytes: [u8; 4]) -> u32
+        ensures { result ≡ number_at self bytes 0 }
+    {
+        u32::from_be_bytes(self.big_first(bytes))
     }
 }
 
@@ -77,11 +76,11 @@ fn begins_capture(n: u32) -> bool
 fn first_order(magic: [u8; 4]) -> Result<Order, HeaderFault>
     ensures { result ≡ order_by_magic magic }
 {
-    let n = number(Order::Big, magic);
+    let n = Order::Big.number(magic);
     if begins_capture(n) {
         return Ok(Order::Big);
     }
-    if begins_capture(number(Order::Little, magic)) {
+    if begins_capture(Order::Little.number(magic)) {
         return Ok(Order::Little);
     }
     if n == 0x0a0d_0d0a {
@@ -95,11 +94,11 @@ pub fn byte_order(h: &[u8; 24]) -> Result<Order, HeaderFault>
     ensures { result ≡ order_of h.now }
 {
     let order = first_order([h[0], h[1], h[2], h[3]])?;
-    let version = word(order, [h[4], h[5]]);
+    let version = u16::from_be_bytes(order.big_first([h[4], h[5]]));
     if version != 2 {
         return Err(HeaderFault::Version(version));
     }
-    let link = number(order, [h[20], h[21], h[22], h[23]]);
+    let link = order.number([h[20], h[21], h[22], h[23]]);
     if link != 1 {
         return Err(HeaderFault::LinkType(link));
     }
@@ -110,5 +109,5 @@ pub fn byte_order(h: &[u8; 24]) -> Result<Order, HeaderFault>
 pub fn captured(order: Order, h: &[u8; 16]) -> u32
     ensures { result ≡ captured_of order h.now }
 {
-    number(order, [h[8], h[9], h[10], h[11]])
+    order.number([h[8], h[9], h[10], h[11]])
 }

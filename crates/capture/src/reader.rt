@@ -1,7 +1,9 @@
 // Reading a capture, a record at a time.
-ghost use Rattle.std.specs.Prelude.{◌≡◌, ◌≤◌, take, vec_len};
+ghost use Rattle.std.specs.Prelude.{◌≡◌, IfErr};
 ghost use Rattle.capture.specs.declared.reader.CaptureFault.TheVariants.{Memory, Header};
-ghost use Rattle.capture.specs.Steps.{Opens, Steps};
+ghost use Rattle.capture.specs.Steps.{Opens, next_record, Tells, Steps};
+ghost use Rattle.capture.specs.Records.{Says, LeavesOnce};
+ghost use Rattle.std.specs.Borrow.{sem};
 
 use super::header::{HeaderFault, Order, byte_order, captured};
 use std::alloc::{AllocError, Global};
@@ -104,7 +106,7 @@ impl From<HeaderFault> for CaptureFault {
     }
 }
 
-// Fills the buffer as far as the input goes, and says how far that is.
+// Fills the buffer as far as the input goes, and says how far that is, which `read_exact` does not.
 fn read_full<R: Read>(input: &mut R, buf: &mut [u8]) -> io::Result<usize> {
     let mut at = 0;
     while at < buf.len() {
@@ -117,13 +119,19 @@ fn read_full<R: Read>(input: &mut R, buf: &mut [u8]) -> io::Result<usize> {
     Ok(at)
 }
 
+// A frame of a capture.
+#[derive(Debug, Clone, Copy)]
+pub struct Record<'a> {
+    // counted from 1
+    pub number: u64,
+    pub frame: &'a [u8],
+}
+
 // A capture that is being read, a frame at a time, in the same memory.
 #[derive(Drop)]
 pub struct Capture {
     order: Order,
     buffer: Vec<u8>,
-    // the frame's length in the buffer
-    len: usize,
     // the records read
     records: u64,
     // where the next record begins
@@ -136,10 +144,7 @@ impl Capture {
         ensures { Opens result }
     {
         let mut header = [0u8; FILE_HEADER];
-        let got = match read_full(input, &mut header) {
-            Ok(got) => got,
-            Err(e) => return Err(CaptureFault::Read(e, 0)),
-        };
+        let got = read_full(input, &mut header).map_err(|e| CaptureFault::Read(e, 0))?;
         if got < FILE_HEADER {
             return Err(CaptureFault::ShortHeader(got));
         }
@@ -148,30 +153,47 @@ impl Capture {
         Ok(Capture {
             order,
             buffer,
-            len: 0,
             records: 0,
             at: FILE_HEADER as u64,
         })
     }
 
-    // Reads the next frame; false where the file ends.
-    pub fn advance<R: Read>(&mut self, input: &mut R) -> Result<bool, CaptureFault>
-        ensures { Steps self.old self.new result }
+    // The number of the next record.
+    fn next_number(&self) -> u64
+        ensures { result ≡ next_record self.now }
     {
-        let record = self.records.saturating_add(1);
+        self.records.saturating_add(1)
+    }
+
+    // Reads the next record's header, and says how many bytes its frame has; none where the file ends.
+    fn read_header<R: Read>(&self, input: &mut R) -> Result<Option<u32>, CaptureFault>
+        ensures { IfErr result (Tells self.now) }
+    {
         let at = self.at;
         let mut header = [0u8; RECORD_HEADER];
-        let got = match read_full(input, &mut header) {
-            Ok(got) => got,
-            Err(e) => return Err(CaptureFault::Read(e, at)),
-        };
+        let got = read_full(input, &mut header).map_err(|e| CaptureFault::Read(e, at))?;
         if got == 0 {
-            return Ok(false);
+            return Ok(None);
         }
         if got < RECORD_HEADER {
-            return Err(CaptureFault::CutHeader { record, at, got });
+            return Err(CaptureFault::CutHeader {
+                record: self.next_number(),
+                at,
+                got,
+            });
         }
-        let captured = captured(self.order, &header);
+        Ok(Some(captured(self.order, &header)))
+    }
+
+    // Reads the next frame into the buffer, and says how long it is; none where the file ends.
+    fn read_frame<R: Read>(&mut self, input: &mut R) -> Result<Option<usize>, CaptureFault>
+        ensures { Steps self.old self.new result }
+    {
+        let record = self.next_number();
+        let at = self.at;
+        let Some(captured) = self.read_header(input)? else {
+            return Ok(None);
+        };
         let len = captured as usize;
         if len > self.buffer.len() {
             return Err(CaptureFault::TooLong {
@@ -180,10 +202,7 @@ impl Capture {
                 captured,
             });
         }
-        let got = match read_full(input, &mut self.buffer[0..len]) {
-            Ok(got) => got,
-            Err(e) => return Err(CaptureFault::Read(e, at)),
-        };
+        let got = read_full(input, &mut self.buffer[..len]).map_err(|e| CaptureFault::Read(e, at))?;
         if got < len {
             return Err(CaptureFault::CutFrame {
                 record,
@@ -192,26 +211,25 @@ impl Capture {
                 got,
             });
         }
-        self.len = len;
         self.records = record;
         self.at = at.saturating_add(16).saturating_add(u64::from(captured));
-        Ok(true)
+        Ok(Some(len))
     }
 
-    // The frame that was read last.
-    pub fn frame(&self) -> &[u8]
-        ensures { self.now.len ≤ vec_len self.now.buffer → result.now ≡ take self.now.len self.now.buffer.items }
+    // The next record; none where the file ends.
+    pub fn next_record<R: Read>(
+        &mut self,
+        input: &mut R,
+    ) -> Result<Option<Record<'_>>, CaptureFault>
+        ensures says { Says self.old result }
+        ensures* leaves { sem 𝓛 (LeavesOnce self.entry result) }
     {
-        match self.buffer.get(0..self.len) {
-            Some(frame) => frame,
-            None => &[],
-        }
-    }
-
-    // Its number, counted from 1.
-    pub fn record(&self) -> u64
-        ensures { result ≡ self.now.records }
-    {
-        self.records
+        let Some(len) = self.read_frame(input)? else {
+            return Ok(None);
+        };
+        Ok(Some(Record {
+            number: self.records,
+            frame: &self.buffer[..len],
+        }))
     }
 }

@@ -5,6 +5,7 @@ use Rattle.std.specs.List.{AllByRecursion}
 use Rattle.flow.specs.Masks.{Bytes36, Within, Agree, covered, overlapping, union, empty_mask}
 use Rattle.classifier.specs.declared.rule.Rule.{Rule}
 use Rattle.classifier.specs.declared.rule.Match.{Match}
+use Rattle.classifier.specs.declared.rule.NewRule.{NewRule}
 
 -- the rule matches the key: its masked key covers it
 unfoldable pub matches : Rule → List ℕ → Bool
@@ -18,6 +19,10 @@ clashing r s = overlapping r.mask r.value s.mask s.value
 abbrev pub new_rule : (id priority : ℕ) (mask value : List ℕ) (ports next : ℕ) → Rule
 new_rule id priority mask value ports next =
     record { id = id; priority = priority; mask = mask; value = value; ports = ports; next = next; count = 0 }
+
+-- a rule that is to stand, as one with count 0
+abbrev pub fresh : NewRule → Rule
+fresh n = new_rule n.id n.priority n.key.mask n.key.value n.ports n.next
 
 -- Finding ----------------------------------------------------------------------------------------------------
 

@@ -2,12 +2,11 @@
 ghost use Rattle.std.specs.Prelude.{◌≡◌, ℕ, List, [], IfOk, Some, None, MatchResult};
 ghost use Rattle.classifier.specs.declared.rule.Rule.{Rule};
 ghost use Rattle.classifier.specs.Faults.{refusal_of};
-ghost use Rattle.classifier.specs.Rules.{Lawful, new_rule, found, FindMask};
+ghost use Rattle.classifier.specs.Rules.{Lawful, fresh, found, FindMask};
 ghost use Rattle.classifier.specs.Tables.{add_refusal, added, missing_refusal, removed, credited, count_of};
 
 use super::fault::ClassifierFault;
-use super::rule::{Find, Rule};
-use flow::MaskedKey;
+use super::rule::{Find, NewRule};
 use std::alloc::{AllocError, Global};
 
 pub trait Classifier: Sized {
@@ -25,15 +24,8 @@ pub trait Classifier: Sized {
         ensures { IfOk result (λ s. rules s ≡ []) };
 
     // One rule more, with count 0.
-    fn add(
-        &mut self,
-        id: u32,
-        priority: u16,
-        key: &MaskedKey,
-        ports: u64,
-        next: u16,
-    ) -> Result<(), ClassifierFault>
-        ensures { MatchResult result (λ _. (add_refusal (rules self.old) (new_rule id priority key.now.mask key.now.value ports next) ≡ None) × (rules self.new ≡ added (rules self.old) (new_rule id priority key.now.mask key.now.value ports next))) (λ e. (add_refusal (rules self.old) (new_rule id priority key.now.mask key.now.value ports next) ≡ Some (refusal_of e)) × (rules self.new ≡ rules self.old)) };
+    fn add(&mut self, new: &NewRule) -> Result<(), ClassifierFault>
+        ensures { MatchResult result (λ _. (add_refusal (rules self.old) (fresh new.now) ≡ None) × (rules self.new ≡ added (rules self.old) (fresh new.now))) (λ e. (add_refusal (rules self.old) (fresh new.now) ≡ Some (refusal_of e)) × (rules self.new ≡ rules self.old)) };
 
     // The rule of this id leaves.
     fn remove(&mut self, id: u32) -> Result<(), ClassifierFault>

@@ -45,11 +45,7 @@ impl Element for Rule {
     fn answer(&self) -> Found {
         Found {
             priority: self.priority,
-            rule: Match {
-                id: self.id,
-                ports: self.ports,
-                next: self.next,
-            },
+            rule: self.name(),
         }
     }
 }

@@ -2,6 +2,8 @@
 ghost use Rattle.std.specs.Prelude.{◌≡◌};
 ghost use Rattle.classifier.specs.Faults.{refusal_of};
 
+use refusal::Refusal;
+
 #[derive(Debug, Clone, Copy, PartialEq, Eq)]
 pub enum ClassifierFault {
     // a rule with this id stands in the table
@@ -14,28 +16,28 @@ pub enum ClassifierFault {
     Missing(u32),
 }
 
-impl ClassifierFault {
-    // The refusal's number.
-    pub fn number(&self) -> u8
-        ensures { result ≡ (refusal_of self.now).0 }
-    {
-        match self {
-            ClassifierFault::Stands(_) => 9,
-            ClassifierFault::Full => 10,
-            ClassifierFault::Overlaps(_) => 11,
-            ClassifierFault::Missing(_) => 12,
-        }
-    }
+// The refusal's number and detail: an id, or the limit.
+impl From<ClassifierFault> for Refusal {
+    ghost from_gives = { λ f r. (r.number, r.detail) ≡ refusal_of f };
 
-    // What the refusal says beside its number: an id, or the limit.
-    pub fn detail(&self) -> u64
-        ensures { result ≡ (refusal_of self.now).1 }
-    {
-        match self {
-            ClassifierFault::Stands(id) => u64::from(*id),
-            ClassifierFault::Full => 64,
-            ClassifierFault::Overlaps(id) => u64::from(*id),
-            ClassifierFault::Missing(id) => u64::from(*id),
+    fn from(fault: ClassifierFault) -> Refusal {
+        match fault {
+            ClassifierFault::Stands(id) => Refusal {
+                number: 9,
+                detail: u64::from(id),
+            },
+            ClassifierFault::Full => Refusal {
+                number: 10,
+                detail: 64,
+            },
+            ClassifierFault::Overlaps(id) => Refusal {
+                number: 11,
+                detail: u64::from(id),
+            },
+            ClassifierFault::Missing(id) => Refusal {
+                number: 12,
+                detail: u64::from(id),
+            },
         }
     }
 }

@@ -17,5 +17,5 @@ pub use element::Found;
 pub use fault::ClassifierFault;
 pub use finding::classifier_laws;
 pub use linear::Linear;
-pub use rule::{Find, Match, Rule};
+pub use rule::{Find, Match, NewRule, Rule};
 pub use store::Store;

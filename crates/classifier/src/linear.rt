@@ -1,7 +1,6 @@
 // A classifier that looks at its rules one after the other, by falling priority and then by rising id.
 use super::store::Store;
 
-mod look;
 mod methods;
 
 #[derive(Drop)]

@@ -1,4 +1,5 @@
 // A rule of one table, and what a find says of one.
+use flow::MaskedKey;
 
 // A rule with its count. The mask and the value are plain bytes; no value bit lies outside the mask.
 #[derive(Clone, Copy)]
@@ -12,6 +13,16 @@ pub struct Rule {
     // the table that follows, 0 for none
     pub next: u16,
     pub count: u64,
+}
+
+// A rule that is to stand.
+#[derive(Clone, Copy)]
+pub struct NewRule {
+    pub id: u32,
+    pub priority: u16,
+    pub key: MaskedKey,
+    pub ports: u64,
+    pub next: u16,
 }
 
 // A rule that was found: its id, and where a frame goes that crosses it.

@@ -1,79 +1,89 @@
 // What single rules say: of a key, of one another, and of what a find names.
 ghost use Rattle.std.specs.Prelude.{◌≡◌, true, ◌&&◌, ◌==◌};
-ghost use Rattle.flow.specs.Masks.{Within, union};
-ghost use Rattle.classifier.specs.Rules.{matches, clashing, named, new_rule};
-ghost use Rattle.classifier.specs.Stores.{sound_test};
+ghost use Rattle.std.specs.Option.{option_map};
+ghost use Rattle.flow.specs.Masks.{union};
+ghost use Rattle.classifier.specs.Rules.{matches, clashing, named, fresh, new_rule};
+ghost use Rattle.classifier.specs.Stores.{before, sound_test};
 
-use super::rule::{Match, Rule};
+use super::rule::{Find, Match, NewRule, Rule};
+use flow::MaskedKey;
 
-// Whether the rule matches the key.
-fn covers_key(rule: &Rule, key: &[u8; 36]) -> bool
-    ensures { result ≡ matches rule.now key.now }
-{
-    flow::covers(&rule.mask, &rule.value, key)
-}
-
-// Looks at the rule: adds its mask's bits, and says whether it matches the key.
-pub fn look_at(rule: &Rule, key: &[u8; 36], mask: &mut [u8; 36]) -> bool
-    ensures matched { result ≡ matches rule.now key.now }
-    ensures added { mask.new ≡ union mask.old rule.now.mask }
-{
-    flow::union_into(mask, &rule.mask);
-    covers_key(rule, key)
-}
-
-// What a find names of the rule.
-pub fn name(rule: &Rule) -> Match
-    ensures { result ≡ named rule.now }
-{
-    Match {
-        id: rule.id,
-        ports: rule.ports,
-        next: rule.next,
+impl NewRule {
+    // A rule that sends to no port and leads to no table.
+    pub fn dropping(id: u32, priority: u16, key: MaskedKey) -> NewRule
+        ensures key { result.key ≡ key }
+        ensures rest { fresh result ≡ new_rule id priority key.mask key.value 0 0 }
+    {
+        NewRule {
+            id,
+            priority,
+            key,
+            ports: 0,
+            next: 0,
+        }
     }
 }
 
-// Whether some key is matched by both rules.
-fn overlap(one: &Rule, other: &Rule) -> bool
-    ensures { result ≡ clashing one.now other.now }
-{
-    flow::overlaps(&one.mask, &one.value, &other.mask, &other.value)
+impl Find {
+    // The id of the rule that was found.
+    pub fn id(&self) -> Option<u32>
+        ensures { result ≡ option_map (λ m. m.id) self.now.rule }
+    {
+        self.rule.map(|rule| rule.id)
+    }
 }
 
-// Whether the rule has the new one's priority and overlaps it.
-pub fn clashes(rule: &Rule, new: &Rule) -> bool
-    ensures { result ≡ (rule.now.priority == new.now.priority && clashing rule.now new.now) }
-{
-    rule.priority == new.priority && overlap(rule, new)
-}
+impl Rule {
+    // The rule that is to stand, with count 0.
+    pub(crate) fn fresh(new: NewRule) -> Rule
+        ensures is { result ≡ fresh new }
+        ensures sound { sound_test result ≡ true }
+    {
+        Rule {
+            id: new.id,
+            priority: new.priority,
+            mask: *new.key.mask(),
+            value: *new.key.value(),
+            ports: new.ports,
+            next: new.next,
+            count: 0,
+        }
+    }
 
-// A copy of a row.
-fn row(bytes: &[u8; 36]) -> [u8; 36]
-    ensures { result ≡ bytes.now }
-{
-    *bytes
-}
+    // What a find names of the rule.
+    pub fn name(&self) -> Match
+        ensures { result ≡ named self.now }
+    {
+        Match {
+            id: self.id,
+            ports: self.ports,
+            next: self.next,
+        }
+    }
 
-// A rule with count 0.
-pub fn fresh_rule(
-    id: u32,
-    priority: u16,
-    mask: &[u8; 36],
-    value: &[u8; 36],
-    ports: u64,
-    next: u16,
-) -> Rule
-    requires { Within value.now mask.now }
-    ensures is { result ≡ new_rule id priority mask.now value.now ports next }
-    ensures sound { sound_test result ≡ true }
-{
-    Rule {
-        id,
-        priority,
-        mask: row(mask),
-        value: row(value),
-        ports,
-        next,
-        count: 0,
+    // Looks at the rule: adds its mask's bits, and says whether it matches the key.
+    #[tactic(auto, unfolding(crate::specs::Rules::matches))]
+    pub(crate) fn look(&self, key: &[u8; 36], mask: &mut [u8; 36]) -> bool
+        ensures matched { result ≡ matches self.now key.now }
+        ensures added { mask.new ≡ union mask.old self.now.mask }
+    {
+        flow::union_into(mask, &self.mask);
+        flow::covers(&self.mask, &self.value, key)
+    }
+
+    // Whether the rule has the new one's priority and some key is matched by both.
+    #[tactic(auto, unfolding(crate::specs::Rules::clashing))]
+    pub(crate) fn clashes(&self, new: &Rule) -> bool
+        ensures { result ≡ (self.now.priority == new.now.priority && clashing self.now new.now) }
+    {
+        self.priority == new.priority
+            && flow::overlaps(&self.mask, &self.value, &new.mask, &new.value)
+    }
+
+    // Whether the rule is looked at before the other.
+    pub(crate) fn goes_before(&self, other: &Rule) -> bool
+        ensures { result ≡ before self.now other.now }
+    {
+        self.priority > other.priority || (self.priority == other.priority && self.id < other.id)
     }
 }

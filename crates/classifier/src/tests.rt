@@ -1,54 +1,43 @@
 use super::*;
-use flow::MaskedKey;
+use flow::{MaskedKey, one_byte};
 use std::test::Fail;
-
-// A row with one byte set.
-fn row(at: usize, byte: u8) -> [u8; 36] {
-    let mut row = flow::empty_mask();
-    if at < 36 {
-        row[at] = byte;
-    }
-    row
-}
-
-// The id of the rule that was found, 0 for none.
-fn id_of(find: &Find) -> u32 {
-    match find.rule {
-        Some(found) => found.id,
-        None => 0,
-    }
-}
 
 #[test]
 fn finds_the_highest_priority(rt: HostRuntime) -> Result<(), Fail> {
     let mut table = <Linear as Classifier>::new(rt.alloc(), ())?;
-    let high = MaskedKey::from_row(&row(0, 0xf0), &row(0, 0x10))?;
-    let low = MaskedKey::from_row(&row(1, 0xff), &row(1, 7))?;
-    table.add(5, 10, &low, 1, 0)?;
-    table.add(9, 20, &high, 2, 0)?;
-    let both = flow::union(&row(0, 0x13), &row(1, 7));
+    let high = MaskedKey::from_row(&one_byte(0, 0xf0), &one_byte(0, 0x10))?;
+    let low = MaskedKey::from_row(&one_byte(1, 0xff), &one_byte(1, 7))?;
+    table.add(&NewRule {
+        ports: 1,
+        ..NewRule::dropping(5, 10, low)
+    })?;
+    table.add(&NewRule {
+        ports: 2,
+        ..NewRule::dropping(9, 20, high)
+    })?;
+    let both = flow::union(&one_byte(0, 0x13), &one_byte(1, 7));
     let first = table.find(&both);
-    assert_eq!(rt; id_of(&first), 9);
+    assert_eq!(rt; first.id(), Some(9));
     assert!(rt; first.mask[0] == 0xf0 && first.mask[1] == 0);
-    let second = table.find(&row(1, 7));
-    assert_eq!(rt; id_of(&second), 5);
+    let second = table.find(&one_byte(1, 7));
+    assert_eq!(rt; second.id(), Some(5));
     assert!(rt; second.mask[0] == 0xf0 && second.mask[1] == 0xff);
-    assert_eq!(rt; id_of(&table.find(&row(2, 1))), 0);
+    assert_eq!(rt; table.find(&one_byte(2, 1)).id(), None);
     Ok(())
 }
 
 #[test]
 fn refuses_and_counts(rt: HostRuntime) -> Result<(), Fail> {
     let mut table = <Linear as Classifier>::new(rt.alloc(), ())?;
-    let one = MaskedKey::from_row(&row(0, 0x0f), &row(0, 1))?;
-    let other = MaskedKey::from_row(&row(0, 0xf0), &row(0, 0x20))?;
-    table.add(7, 3, &one, 0, 0)?;
+    let one = MaskedKey::from_row(&one_byte(0, 0x0f), &one_byte(0, 1))?;
+    let other = MaskedKey::from_row(&one_byte(0, 0xf0), &one_byte(0, 0x20))?;
+    table.add(&NewRule::dropping(7, 3, one))?;
     assert_eq!(rt;
-        table.add(7, 4, &other, 0, 0),
+        table.add(&NewRule::dropping(7, 4, other)),
         Err(ClassifierFault::Stands(7))
     );
     assert_eq!(rt;
-        table.add(8, 3, &other, 0, 0),
+        table.add(&NewRule::dropping(8, 3, other)),
         Err(ClassifierFault::Overlaps(7))
     );
     table.credit(7, u64::MAX);

@@ -6,3 +6,4 @@ pub mod Forwards
 pub mod CallLaws
 pub mod Givens
 pub mod Lawfuls
+pub mod Tours

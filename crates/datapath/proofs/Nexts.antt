@@ -1,14 +1,12 @@
 -- The next tables of rules that were found.
-use Rattle.std.proofs.Common.{◌≡◌, ℕ, zero, suc, ◌+◌, ◌<◌, true, List, [], ◌∷◌, map, length, get_or, take, set, Some, None, Option, sym, refl, ap, ◌∙◌, subst, arith, length-take}
-use Rattle.std.proofs.ByRecursion.{All-get_or}
-use Rattle.std.proofs.lemmas.List.{get_or-take, get_or-map, map-set, set-get_or}
+use Rattle.std.proofs.Common.{◌≡◌, ℕ, zero, suc, ◌+◌, ◌<◌, true, List, [], ◌∷◌, map, length, get_or, set, Some, sym, ap, ◌∙◌, subst, arith}
+use Rattle.std.proofs.lemmas.List.{get_or-map, map-set, set-get_or}
 use Rattle.std.proofs.lemmas.Bool.Decides.{nat_tests}
 use Rattle.std.specs.List.{AllByRecursion}
 use Rattle.classifier.specs.declared.rule.Rule.{Rule}
 use Rattle.classifier.specs.declared.rule.Match.{Match}
 use Rattle.classifier.specs.Rules.{found}
 use Rattle.classifier.specs.Tables.{credited}
-use Rattle.datapath.specs.declared.level.Mark.{Mark}
 use Rattle.datapath.specs.Walk.{TablesOf, table_of, good_next, Forward, credit_at}
 use Rattle.datapath.proofs.Counts.{found_has}
 
@@ -30,17 +28,6 @@ next_below t n h u = grind (arith, nat_tests)
 -- what a find names goes on to one of the four tables
 pub found_next : (ts : TablesOf) (t : ℕ) (k : List ℕ) (m : Match) → Forward 0 ts → t < length ts → found (table_of ts t) k ≡ Some m → (m.next ≡ 0 → ⊥) → m.next < 4
 found_next ts t k m h l e u = next_below (0 + t) m.next (found_has (λ x. good_next (0 + t) x.next ≡ true) (table_of ts t) k m (forward_at 0 ts t h l) e) u
-
--- what is not some match is none
-pub none_since : (o : Option Match) → ((m : Match) → o ≡ Some m → ⊥) → o ≡ None
-none_since None h = refl
-none_since (Some m) h = absurd (h m refl)
-
--- a crossed rule's table is one of the four
-pub low_at : (xs : List Mark) (n i : ℕ) (d : Mark) → AllByRecursion (λ m. m.table < 4) (take n xs) → i < n → i < length xs → (get_or xs i d).table < 4
-low_at xs n i d h l r =
-    let w : i < length (take n xs) = simp length-take (omega arith) in
-    subst (λ m. m.table < 4) (get_or-take n xs i d l) (All-get_or (λ m. m.table < 4) (take n xs) i d w h)
 
 -- one table changed, through the owner's list
 pub change_set : {X : Type 0} (f : X → List Rule) (F : List Rule → List Rule) (xs : List X) (t : ℕ) (x y : X) → t < length xs → f y ≡ F (f (get_or xs t x)) → map f (set xs t y) ≡ set (map f xs) t (F (table_of (map f xs) t))

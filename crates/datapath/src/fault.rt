@@ -5,6 +5,7 @@ ghost use Rattle.datapath.specs.declared.fault.TablesFault.TheVariants.{Outside,
 
 use classifier::ClassifierFault;
 use flow::OutsideMask;
+use refusal::Refusal;
 
 #[derive(Debug, Clone, Copy, PartialEq, Eq)]
 pub enum TablesFault {
@@ -36,30 +37,29 @@ impl From<OutsideMask> for TablesFault {
     }
 }
 
-impl TablesFault {
-    // The refusal's number.
-    pub fn number(&self) -> u8
-        ensures { result ≡ (refusal_of self.now).0 }
-    {
-        match self {
-            TablesFault::Table(_) => 5,
-            TablesFault::Outside(_) => 6,
-            TablesFault::PortZero => 7,
-            TablesFault::Next(_) => 8,
-            TablesFault::Within(fault) => fault.number(),
-        }
-    }
+// The refusal's number and detail.
+impl From<TablesFault> for Refusal {
+    ghost from_gives = { λ f r. (r.number, r.detail) ≡ refusal_of f };
 
-    // What the refusal says beside its number.
-    pub fn detail(&self) -> u64
-        ensures { result ≡ (refusal_of self.now).1 }
-    {
-        match self {
-            TablesFault::Table(table) => u64::from(*table),
-            TablesFault::Outside(byte) => *byte as u64,
-            TablesFault::PortZero => 0,
-            TablesFault::Next(next) => u64::from(*next),
-            TablesFault::Within(fault) => fault.detail(),
+    fn from(fault: TablesFault) -> Refusal {
+        match fault {
+            TablesFault::Table(table) => Refusal {
+                number: 5,
+                detail: u64::from(table),
+            },
+            TablesFault::Outside(byte) => Refusal {
+                number: 6,
+                detail: byte as u64,
+            },
+            TablesFault::PortZero => Refusal {
+                number: 7,
+                detail: 0,
+            },
+            TablesFault::Next(next) => Refusal {
+                number: 8,
+                detail: u64::from(next),
+            },
+            TablesFault::Within(fault) => Refusal::from(fault),
         }
     }
 }

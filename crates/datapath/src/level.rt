@@ -22,8 +22,15 @@ pub struct RuleRecord {
     pub next: u16,
 }
 
+// A rule by its table and its id.
+#[derive(Debug, Clone, Copy, PartialEq, Eq, PartialOrd, Ord)]
+pub struct RuleName {
+    pub table: u32,
+    pub id: u32,
+}
+
 // A rule that a key crosses.
-#[derive(Clone, Copy)]
+#[derive(Clone, Copy, Default)]
 pub struct Mark {
     pub table: u8,
     pub id: u32,
@@ -50,9 +57,6 @@ pub trait Level {
     // the rules of the four tables, each with its due count
     ghost rules: { Self → TablesOf };
 
-    // what holds between its parts: new ones have it, every call needs it and keeps it
-    ghost sound: { Self → Type 0 };
-
     // the unsuspected entries of this level and those below
     ghost entries: { Self → List Entry };
 
@@ -77,15 +81,12 @@ pub trait Level {
 
     // Where a key goes. Changes nothing.
     fn peek(&self, key: &[u8; 36]) -> Peek
-        requires { sound self.now }
         ensures ports { result.ports ≡ ports_of (walk (rules self.now) key.now) }
         ensures mask { Tells (rules self.now) key.now result.mask }
         ensures given { gives self.now key.now result.mask };
 
     // The same, and 1 more for each rule crossed.
     fn decide(&mut self, key: &[u8; 36]) -> Decision
-        requires { sound self.old }
-        ensures kept { sound self.new }
         ensures ports { result.ports ≡ ports_of (walk (rules self.old) key.now) }
         ensures mask { Tells (rules self.old) key.now result.mask }
         ensures given { gives self.old key.now result.mask }
@@ -97,46 +98,34 @@ pub trait Level {
 
     // n more for each rule that the key crosses.
     fn credit(&mut self, key: &[u8; 36], n: u64)
-        requires { sound self.old }
-        ensures kept { sound self.new }
         ensures counted { rules self.new ≡ due (rules self.old) key.now n }
         ensures suspects { (i : ℕ) → suspects self.old i → suspects self.new i }
         ensures drops { (i : ℕ) → drops self.new i → drops self.old i };
 
     // One rule more.
     fn add(&mut self, rule: &RuleRecord) -> Result<(), TablesFault>
-        requires { sound self.old }
-        ensures kept { sound self.new }
-        ensures value { MatchResult result (λ _. (add_fault (rules self.old) rule.now ≡ None) × (rules self.new ≡ with_rule (rules self.old) rule.now)) (λ e. (add_fault (rules self.old) rule.now ≡ Some (refusal_of e)) × (rules self.new ≡ rules self.old)) };
+        ensures { MatchResult result (λ _. (add_fault (rules self.old) rule.now ≡ None) × (rules self.new ≡ with_rule (rules self.old) rule.now)) (λ e. (add_fault (rules self.old) rule.now ≡ Some (refusal_of e)) × (rules self.new ≡ rules self.old)) };
 
     // The rule of this id leaves its table.
-    fn remove(&mut self, table: u32, id: u32) -> Result<(), TablesFault>
-        requires { sound self.old }
-        ensures kept { sound self.new }
-        ensures value { MatchResult result (λ _. (missing_fault (rules self.old) table id ≡ None) × (rules self.new ≡ without_rule (rules self.old) table id)) (λ e. (missing_fault (rules self.old) table id ≡ Some (refusal_of e)) × (rules self.new ≡ rules self.old)) };
+    fn remove(&mut self, name: RuleName) -> Result<(), TablesFault>
+        ensures { MatchResult result (λ _. (missing_fault (rules self.old) name.table name.id ≡ None) × (rules self.new ≡ without_rule (rules self.old) name.table name.id)) (λ e. (missing_fault (rules self.old) name.table name.id ≡ Some (refusal_of e)) × (rules self.new ≡ rules self.old)) };
 
     // The due count of the rule of this id.
-    fn count(&mut self, table: u32, id: u32) -> Result<u64, TablesFault>
-        requires { sound self.old }
-        ensures kept { sound self.new }
+    fn count(&mut self, name: RuleName) -> Result<u64, TablesFault>
         ensures same { rules self.new ≡ rules self.old }
-        ensures value { MatchResult result (λ n. (missing_fault (rules self.old) table id ≡ None) × (n ≡ rule_count (rules self.old) table id)) (λ e. missing_fault (rules self.old) table id ≡ Some (refusal_of e)) };
+        ensures value { MatchResult result (λ n. (missing_fault (rules self.old) name.table name.id ≡ None) × (n ≡ rule_count (rules self.old) name.table name.id)) (λ e. missing_fault (rules self.old) name.table name.id ≡ Some (refusal_of e)) };
 
     // Looks again at suspect entries, in up to n slots of each level. Gives the number of suspect entries that remain, up to 2^32 - 1.
     fn revalidate(&mut self, n: u32) -> u32
-        requires { sound self.old }
-        ensures kept { sound self.new }
         ensures same { rules self.new ≡ rules self.old }
         ensures remaining { suspects self.new result };
 
     // Drops an entry of each level. Gives the number of entries dropped, up to 2^32 - 1.
     fn evict(&mut self) -> u32
-        requires { sound self.old }
-        ensures kept { sound self.new }
         ensures same { rules self.new ≡ rules self.old }
         ensures dropped { drops self.old result };
 
-    ghost lawful: { (s : Self) → sound s → LawfulTables (rules s) };
+    ghost lawful: { (s : Self) → LawfulTables (rules s) };
 
-    ghost truth: { (s : Self) → sound s → AllTrue (rules s) (entries s) };
+    ghost truth: { (s : Self) → AllTrue (rules s) (entries s) };
 }

@@ -9,5 +9,5 @@ mod walk;
 
 pub use fault::TablesFault;
 pub use laws::walk_laws;
-pub use level::{Decision, Level, Mark, Peek, RuleRecord};
+pub use level::{Decision, Level, Mark, Peek, RuleName, RuleRecord};
 pub use tables::Tables;

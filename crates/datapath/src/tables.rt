@@ -7,13 +7,13 @@ ghost use Rattle.datapath.specs.Walk.{Forward, no_rules};
 ghost use Rattle.std.proofs.ByRecursion.{All-map};
 ghost use Rattle.std.proofs.lemmas.List.{length-map};
 ghost use Rattle.classifier.specs.Rules.{Lawful};
-ghost use Rattle.datapath.specs.TablesLevelLemmas.{each};
+ghost use Rattle.datapath.specs.TablesLevelLemmas.{each, Forward-prop};
 ghost use Rattle.datapath.specs.Entries.{AllTrue};
 
 use super::fault::TablesFault;
-use super::level::{Decision, Level, Peek, RuleRecord};
+use super::level::{Decision, Level, Peek, RuleName, RuleRecord};
 use super::walk::Walk;
-use classifier::Classifier;
+use classifier::{Classifier, NewRule};
 use flow::MaskedKey;
 use std::alloc::{AllocError, Global};
 
@@ -21,13 +21,15 @@ use std::alloc::{AllocError, Global};
 #[derive(Drop)]
 pub struct Tables<C: Classifier> {
     pub(crate) classifiers: Vec<C>,
+    ghost four: { length classifiers.items ≡ 4 },
+    // each rule's next table is 0, or above the rule's own and at most 3
+    ghost forward: { Forward 0 (map C.Classifier.rules classifiers.items) } by { Forward-prop 0 _ },
 }
 
 impl<C: Classifier + Drop> Tables<C> {
     // Four tables without a rule, each with a classifier of this kind. All memory is taken here.
     pub fn new(heap: Global, kind: C::Kind) -> Result<Tables<C>, AllocError>
-        ensures empty { IfOk result (λ s. map C.Classifier.rules s.classifiers.items ≡ no_rules) }
-        ensures sound { IfOk result (λ s. (length s.classifiers.items ≡ 4) × Forward 0 (map C.Classifier.rules s.classifiers.items)) }
+        ensures { IfOk result (λ s. map C.Classifier.rules s.classifiers.items ≡ no_rules) }
     {
         let mut classifiers = Vec::with_capacity(heap, 4)?;
         for _ in 0..4usize {
@@ -63,8 +65,6 @@ fn check_action(table: u32, ports: u64, next: u16) -> Result<(), TablesFault>
 impl<C: Classifier> Level for Tables<C> {
     ghost rules = { λ s. map C.Classifier.rules s.classifiers.items };
 
-    ghost sound = { λ s. (length s.classifiers.items ≡ 4) × Forward 0 (map C.Classifier.rules s.classifiers.items) };
-
     ghost entries = { λ _. [] };
 
     ghost holds = { λ _ _. Unit {0} };
@@ -80,14 +80,14 @@ impl<C: Classifier> Level for Tables<C> {
 
     ghost drops = { λ _ n. n ≡ 0 };
 
-    ghost lawful = { λ s h.
+    ghost lawful = { λ s.
         record {
-          four = simp length-map h.0;
+          four = simp length-map s.four;
           each = All-map Lawful C.Classifier.rules s.classifiers.items (each (λ c. Lawful (C.Classifier.rules c)) C.Classifier.lawful s.classifiers.items);
-          forward = h.1;
+          forward = s.forward;
         } };
 
-    ghost truth = { unfold AllTrue in λ s h. tt };
+    ghost truth = { unfold AllTrue in λ s. tt };
 
     fn peek(&self, key: &[u8; 36]) -> Peek {
         let Walk { ports, mask, .. } = self.walk(key);
@@ -111,19 +111,25 @@ impl<C: Classifier> Level for Tables<C> {
         let t = place(rule.table)?;
         let key = MaskedKey::from_row(&rule.mask, &rule.value)?;
         check_action(rule.table, rule.ports, rule.next)?;
-        self.classifiers[t].add(rule.id, rule.priority, &key, rule.ports, rule.next)?;
+        self.classifiers[t].add(&NewRule {
+            id: rule.id,
+            priority: rule.priority,
+            key,
+            ports: rule.ports,
+            next: rule.next,
+        })?;
         Ok(())
     }
 
-    fn remove(&mut self, table: u32, id: u32) -> Result<(), TablesFault> {
-        let t = place(table)?;
-        self.classifiers[t].remove(id)?;
+    fn remove(&mut self, name: RuleName) -> Result<(), TablesFault> {
+        let t = place(name.table)?;
+        self.classifiers[t].remove(name.id)?;
         Ok(())
     }
 
-    fn count(&mut self, table: u32, id: u32) -> Result<u64, TablesFault> {
-        let t = place(table)?;
-        Ok(self.classifiers[t].count(id)?)
+    fn count(&mut self, name: RuleName) -> Result<u64, TablesFault> {
+        let t = place(name.table)?;
+        Ok(self.classifiers[t].count(name.id)?)
     }
 
     // The tables have no entries.

@@ -9,77 +9,100 @@ use std::alloc::{AllocError, AllocFailed};
 use std::process::ExitCode;
 use std::{env, fmt, fs, io};
 
-// Why the program ends with status 1.
 #[derive(Drop)]
-enum Fault {
+enum Cause {
     Memory,
     // standard input, the arguments or a script's file are not read
     Input(io::Error),
-    File(String, io::Error),
     Script(ScriptFault),
     Run(RunFault),
-    // the same in one of several files
-    ScriptIn(String, ScriptFault),
-    RunIn(String, RunFault),
+}
+
+impl fmt::Display for Cause {
+    fn fmt<W: fmt::Write>(&self, f: &mut fmt::Formatter<W>) -> fmt::Result {
+        match self {
+            Cause::Memory => write!(f, "no memory"),
+            Cause::Input(e) => write!(f, "{e}"),
+            Cause::Script(fault) => write!(f, "{fault}"),
+            Cause::Run(fault) => write!(f, "{fault}"),
+        }
+    }
+}
+
+// Why the program ends with status 1, and in which file, where that is to be said.
+#[derive(Drop)]
+struct Fault {
+    name: Option<String>,
+    cause: Cause,
 }
 
 impl fmt::Display for Fault {
     fn fmt<W: fmt::Write>(&self, f: &mut fmt::Formatter<W>) -> fmt::Result {
-        match self {
-            Fault::Memory => write!(f, "no memory"),
-            Fault::Input(e) => write!(f, "{e}"),
-            Fault::File(name, e) => write!(f, "{name}: {e}"),
-            Fault::Script(fault) => write!(f, "{fault}"),
-            Fault::Run(fault) => write!(f, "{fault}"),
-            Fault::ScriptIn(name, fault) => write!(f, "{name}: {fault}"),
-            Fault::RunIn(name, fault) => write!(f, "{name}: {fault}"),
+        let cause = &self.cause;
+        match &self.name {
+            Some(name) => write!(f, "{name}: {cause}"),
+            None => write!(f, "{cause}"),
         }
+    }
+}
+
+impl From<Cause> for Fault {
+    fn from(cause: Cause) -> Fault {
+        Fault { name: None, cause }
     }
 }
 
 impl From<AllocError> for Fault {
     fn from(_e: AllocError) -> Fault {
-        Fault::Memory
+        Fault::from(Cause::Memory)
     }
 }
 
 impl<T: Drop> From<AllocFailed<T>> for Fault {
     fn from(_e: AllocFailed<T>) -> Fault {
-        Fault::Memory
+        Fault::from(Cause::Memory)
     }
 }
 
 impl From<io::Error> for Fault {
     fn from(e: io::Error) -> Fault {
-        Fault::Input(e)
+        Fault::from(Cause::Input(e))
     }
 }
 
-// A script from a file.
+// A script, and its file's name, where faults are to name it.
 #[derive(Drop)]
 struct Source {
-    name: String,
+    name: Option<String>,
     statements: Vec<Numbered>,
 }
 
-fn load(rt: &HostRuntime, name: String, alone: bool) -> Result<Source, Fault> {
-    let text = match fs::read_to_string(rt, name.as_str()) {
-        Ok(text) => text,
-        Err(e) => return Err(Fault::File(name, e)),
-    };
-    match parse(rt.alloc(), text.as_str()) {
+fn read_source(rt: &HostRuntime, name: Option<String>, text: &str) -> Result<Source, Fault> {
+    match parse(rt.alloc(), text) {
         Ok(statements) => Ok(Source { name, statements }),
-        Err(fault) if alone => Err(Fault::Script(fault)),
-        Err(fault) => Err(Fault::ScriptIn(name, fault)),
+        Err(fault) => Err(Fault {
+            name,
+            cause: Cause::Script(fault),
+        }),
     }
 }
 
-fn run_source(rt: &HostRuntime, source: Source, alone: bool) -> Result<(), Fault> {
-    match run(rt, source.statements.as_slice()) {
-        Ok(()) => Ok(()),
-        Err(fault) if alone => Err(Fault::Run(fault)),
-        Err(fault) => Err(Fault::RunIn(source.name, fault)),
+fn load(rt: &HostRuntime, name: String, alone: bool) -> Result<Source, Fault> {
+    match fs::read_to_string(rt, name.as_str()) {
+        Ok(text) => read_source(rt, Some(name).filter(|_| !alone), text.as_str()),
+        Err(e) => Err(Fault {
+            name: Some(name),
+            cause: Cause::Input(e),
+        }),
     }
+}
+
+fn run_source(rt: &HostRuntime, source: Source) -> Result<(), Fault> {
+    let Source { name, statements } = source;
+    run(rt, statements.as_slice()).map_err(|fault| Fault {
+        name,
+        cause: Cause::Run(fault),
+    })
 }
 
 // All files are read before the first statement runs.
@@ -90,20 +113,14 @@ fn run_files(rt: &HostRuntime, names: Vec<String>) -> Result<(), Fault> {
         sources.push(load(rt, name, alone)?)?;
     }
     for source in sources {
-        run_source(rt, source, alone)?;
+        run_source(rt, source)?;
     }
     Ok(())
 }
 
 fn run_input(rt: &HostRuntime) -> Result<(), Fault> {
     let text = io::read_to_string(rt.alloc(), rt.stdin())?;
-    match parse(rt.alloc(), text.as_str()) {
-        Ok(statements) => match run(rt, statements.as_slice()) {
-            Ok(()) => Ok(()),
-            Err(fault) => Err(Fault::Run(fault)),
-        },
-        Err(fault) => Err(Fault::Script(fault)),
-    }
+    run_source(rt, read_source(rt, None, text.as_str())?)
 }
 
 fn run_all(rt: &HostRuntime) -> Result<(), Fault> {

@@ -5,4 +5,4 @@ use Rattle.eviction.specs.Clocks.{Face}
 
 -- its hand and its two sets
 abbrev pub face : Clock → Face
-face c = record { hand = c.hand; filled = in_set c.filled; marks = in_set c.marks }
+face c = record { hand = c.hand; filled = in_set c.filled.bits; marks = in_set c.marks.bits }

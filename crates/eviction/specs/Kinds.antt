@@ -17,7 +17,7 @@ pub data State : Type 0 where
 -- the filled slots, by case
 abbrev pub any_filled : AnyPolicy → ℕ → Bool
 any_filled (Fifo f) = listed (vec_items f.order)
-any_filled (Clock c) = in_set c.filled
+any_filled (Clock c) = in_set c.filled.bits
 
 -- the state, by case
 abbrev pub state : AnyPolicy → State

@@ -2,11 +2,13 @@
 use Rattle.std.specs.Prelude.{◌≡◌, ℕ, zero, suc, ◌+◌, ◌<◌, ◌≤◌, Bool, true, false, cond, not, ◌&&◌, ◌||◌, List, [], ◌∷◌, ◌++◌, length, Some, None, Option, MatchOption, ◌==◌, ◌≢◌, nat_eq, nat_lt, slice_index, refl}
 use Rattle.std.proofs.Common.{sym, ap, ap₂, subst, ◌∙◌, ⊎_elim, arith}
 use Rattle.std.proofs.lemmas.List.{length-append}
-use Rattle.std.specs.List.{remove}
+use Rattle.std.specs.List.{remove, position, AllByRecursion}
+use Rattle.std.proofs.lemmas.List.Quantifiers.{position-Some}
+use Rattle.flow.proofs.Firsts.{none_passes}
 use Rattle.std.specs.Borrow.{Bor}
 use Rattle.std.specs.Option.{option_map}
 use Rattle.std.specs.Slice.{IsGetResult}
-use Rattle.std.proofs.lemmas.Bool.{cases_eq, cases_Bool, cases_lt, eq-eqb, ne_eqb, eqb-false, ltb-true, lt-ltb, le-ltb, and_parts, and_from, not-true, not_from_false, cond-true, cond-false, or_parts}
+use Rattle.std.proofs.lemmas.Bool.{cases_eq, cases_Bool, cases_lt, eq-eqb, ne_eqb, eqb-true, eqb-false, ltb-true, lt-ltb, le-ltb, and_parts, and_from, not-true, not_from_false, cond-true, cond-false, or_parts}
 use Rattle.std.proofs.lemmas.Bool.Decides.{nat_tests}
 use Rattle.eviction.specs.Sets.{with_slot, without_slot}
 use Rattle.eviction.specs.Orders.{listed, left_out, put_last, oldest, orderly}
@@ -230,3 +232,18 @@ left_from xs ys s o e =
 pub first_from : (xs : List ℕ) (o : Option ℕ) → o ≡ oldest xs → FirstOf xs o
 first_from xs o e =
     record { is = e; named = subst (λ r. MatchOption r ((i : ℕ) → listed xs i ≡ false) (λ s. listed xs s ≡ true)) (sym e) (oldest_named xs) }
+
+-- the slot at the first place that it has is taken out
+pub left_at : (xs ys : List ℕ) (s p : ℕ) → orderly xs ≡ true → position (λ x. x == s) xs ≡ Some p → ys ≡ remove xs p → Left xs ys s
+left_at xs ys s p o e r =
+    let at = λ (d : ℕ). position-Some (λ x. x == s) xs p d e in
+    left_from xs ys s o (r ∙ placed xs s p o (at 0).0 (λ k l. eqb-false (slice_index xs k) s ((at 0).2 k l)) (eqb-true (slice_index xs p) s (at 0).1))
+
+-- a slot that has no place
+pub left_none : (xs : List ℕ) (s : ℕ) → orderly xs ≡ true → position (λ x. x == s) xs ≡ None → Left xs xs s
+unfolding listed
+left_none xs s o e = left_from xs xs s o (sym (left_out_absent xs s (unlisted xs (none_passes (λ x. x == s) xs e))))
+  where
+    unlisted : (ys : List ℕ) → AllByRecursion (λ y. (y == s) ≡ false) ys → listed ys s ≡ false
+    unlisted [] h = refl
+    unlisted (y ∷ ys) h = ap₂ ◌||◌ (ne_eqb s y (λ d. eqb-false y s h.0 (sym d))) (unlisted ys h.1)

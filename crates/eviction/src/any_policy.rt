@@ -30,7 +30,7 @@ impl Policy for AnyPolicy {
 
     ghost below = { elim [
       | Fifo s ↦ λ i h. listed_below s.order.items i s.ok h
-      | Clock s ↦ λ i h. in_set_below 128 s.filled i s.wide h
+      | Clock s ↦ λ i h. in_set_below 128 s.filled.bits i s.filled.wide h
     ] };
 
     fn new(heap: Global, kind: PolicyKind) -> Result<AnyPolicy, AllocError>

@@ -2,10 +2,10 @@
 #![tactic(auto)]
 
 pub mod any_policy;
-mod bitmap;
 pub mod clock;
 pub mod fifo;
 pub mod policy;
+mod slot_set;
 #[cfg(test)]
 mod tests;
 

@@ -4,7 +4,8 @@
 ghost use Rattle.std.specs.Prelude.{◌≡◌};
 ghost use Rattle.exports.specs.Answers.{answer_of, held_after};
 
-use packet::read_key;
+use packet::Reader;
+use refusal::Refusal;
 
 // Writes the key of a frame that came in at a port, and answers 0; or writes nothing, and answers the refusal's number,
 // or 255 where the buffer for the key is not 36 bytes long.
@@ -16,11 +17,11 @@ pub extern "C" fn dolfrims_key(in_port: u16, frame: &[u8], key: &mut [u8]) -> u8
     if key.len() != 36 {
         return 255;
     }
-    match read_key(in_port, frame) {
-        Ok(k) => {
-            key.copy_from_slice(&k);
+    match Reader::open(in_port, frame) {
+        Ok(reader) => {
+            key.copy_from_slice(&reader.key());
             0
         }
-        Err(fault) => fault.number(),
+        Err(fault) => Refusal::from(fault).number,
     }
 }

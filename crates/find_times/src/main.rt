@@ -3,7 +3,7 @@
 
 mod samples;
 
-use classifier::{Classifier, Find};
+use classifier::{Classifier, Find, NewRule};
 use flow::MaskedKey;
 use pile::{AnyClassifier, ClassifierKind};
 use samples::{Aim, Random, Sample};
@@ -18,11 +18,9 @@ fn table_of(
     rules: &[Sample],
 ) -> anyhow::Result<AnyClassifier> {
     let mut table = <AnyClassifier as Classifier>::new(rt.alloc(), kind)?;
-    let mut id: u32 = 0;
-    for rule in rules {
-        id = id.wrapping_add(1);
+    for (id, rule) in (1u32..).zip(rules) {
         if let Ok(key) = MaskedKey::from_row(&rule.mask, &rule.value) {
-            let _ = table.add(id, rule.priority, &key, 0, 0);
+            let _ = table.add(&NewRule::dropping(id, rule.priority, key));
         }
     }
     Ok(table)
@@ -30,10 +28,7 @@ fn table_of(
 
 // The id of the rule that was found, 0 for none.
 fn id_of(find: &Find) -> u32 {
-    match find.rule {
-        Some(found) => found.id,
-        None => 0,
-    }
+    find.id().unwrap_or(0)
 }
 
 // Finds every key. What is found goes into the sum and the mask, so that no find is left out.

@@ -18,8 +18,8 @@ impl Random {
 
     fn row(&mut self) -> [u8; 36] {
         let mut row = flow::empty_mask();
-        for i in 0..36 {
-            row[i] = self.byte();
+        for byte in &mut row {
+            *byte = self.byte();
         }
         row
     }
@@ -85,8 +85,8 @@ pub fn rules(
 // A key that the rule matches.
 fn key_for(rule: &Sample, random: &mut Random) -> [u8; 36] {
     let mut key = random.key();
-    for i in 0..36 {
-        key[i] = (key[i] & !rule.mask[i]) | rule.value[i];
+    for ((byte, mask), value) in key.iter_mut().zip(&rule.mask).zip(&rule.value) {
+        *byte = (*byte & !mask) | value;
     }
     key
 }

@@ -4,3 +4,4 @@ pub mod OverlapLaws
 pub mod Places
 pub mod OutsideLaws
 pub mod WholeLaws
+pub mod Firsts

@@ -1,6 +1,9 @@
 -- The first byte of a value that has a bit outside the mask.
-use Rattle.std.proofs.Common.{◌≡◌, ℕ, zero, suc, ◌+◌, ◌<◌, true, false, eqb, List, [], ◌∷◌, length, get_or, Some, None, Option, sym, refl, ap, ◌∙◌, ap₂, ⊎_elim, add-one, arith}
+use Rattle.std.proofs.Common.{◌≡◌, ℕ, zero, suc, ◌+◌, ◌<◌, Bool, true, false, cond, not, zip, eqb, List, [], ◌∷◌, length, get_or, Some, None, Option, sym, refl, ap, ◌∙◌, ap₂, ⊎_elim, add-one, arith}
 use lib.Bits.{bit_and}
+use Rattle.std.specs.List.{position, position_from}
+use Rattle.std.specs.Option.{option_map}
+use Rattle.std.proofs.lemmas.Iterator.Adapters.{position_from-zero}
 use Rattle.std.proofs.lemmas.Bool.{cond-true, cond-false, eq-eqb, ne_eqb, eqb-true, cases_Bool}
 use Rattle.flow.specs.Masks.{masked, Within, one_more, first_difference, first_outside}
 use Rattle.flow.proofs.MaskLaws.{masked_at, length_masked}
@@ -83,3 +86,27 @@ outside_low m v i e = difference_low (masked m v) v i e
 -- and then the value has a bit outside the mask
 pub outside_some : (m v : List ℕ) (i : ℕ) → first_outside m v ≡ Some i → Within v m → ⊥
 outside_some m v i e w = let n = none_outside m v w in let z : ◌≡◌ {A = ℕ} 0 1 = cc in omega arith
+
+-- the same place, as `position` gives it
+outside_from : (i : ℕ) (m v : List ℕ) → length m ≡ length v → position_from (λ p. not (eqb (bit_and p.0 p.1) p.1)) i (zip m v) ≡ option_map (λ j. i + j) (first_difference (masked m v) v)
+unfolding masked first_difference
+outside_from i [] v l = refl
+outside_from i (x ∷ m) [] l = refl
+outside_from i (x ∷ m) (y ∷ v) l = step (eqb (bit_and x y) y) (outside_from (i + 1) m v (omega arith))
+  where
+    further : (o : Option ℕ) → option_map (λ j. i + 1 + j) o ≡ option_map (λ j. i + j) (one_more o)
+    further None = refl
+    further (Some j) = let e : i + 1 + j ≡ i + (j + 1) = omega arith in ap Some e
+
+    step : (b : Bool) → position_from (λ p. not (eqb (bit_and p.0 p.1) p.1)) (i + 1) (zip m v) ≡ option_map (λ j. i + 1 + j) (first_difference (masked m v) v) → cond (not b) (Some i) (position_from (λ p. not (eqb (bit_and p.0 p.1) p.1)) (i + 1) (zip m v)) ≡ option_map (λ j. i + j) (cond b (one_more (first_difference (masked m v) v)) (Some 0))
+    step true e = e ∙ further (first_difference (masked m v) v)
+    step false e = let z : i ≡ i + 0 = omega arith in ap Some z
+
+whole : (o : Option ℕ) → option_map (λ j. 0 + j) o ≡ o
+whole None = refl
+whole (Some j) = let e : 0 + j ≡ j = omega arith in ap Some e
+
+pub outside_position : (m v : List ℕ) → length m ≡ length v → position (λ p. not (eqb (bit_and p.0 p.1) p.1)) (zip m v) ≡ first_outside m v
+unfolding first_outside
+outside_position m v l =
+    position_from-zero (λ p. not (eqb (bit_and p.0 p.1) p.1)) (zip m v) ∙ outside_from 0 m v l ∙ whole (first_difference (masked m v) v)

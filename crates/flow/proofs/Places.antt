@@ -1,10 +1,10 @@
 -- The definitions by places: what a loop over the 36 bytes shows.
-use Rattle.std.proofs.Common.{◌≡◌, ℕ, ◌+◌, ◌<◌, ◌≤◌, Bool, eqb, List, length, get_or, Decides, sym, ap, ◌∙◌, ap₂, arith, below_more}
+use Rattle.std.proofs.Common.{◌≡◌, ℕ, ◌<◌, eqb, List, [], ◌∷◌, length, get_or, zip, Decides, sym, refl, ◌∙◌, ap₂, arith}
 use lib.Bits.{bit_and, bit_or, bit_xor}
-use Rattle.std.proofs.lemmas.Bool.Decides.{Decides-like}
+use Rattle.std.specs.List.{AllByRecursion, fold}
 use Rattle.std.proofs.lemmas.List.{ext_get_or}
 use Rattle.std.proofs.lemmas.Bool.{eq-eqb, eqb-true}
-use Rattle.flow.specs.Masks.{masked, union, Covers, Agree}
+use Rattle.flow.specs.Masks.{masked, union, Covers}
 use Rattle.flow.proofs.BitLaws.{or_none, same_from_xor, xor_same}
 use Rattle.flow.proofs.MaskLaws.{masked_at, union_at, length_masked, length_union}
 
@@ -17,26 +17,45 @@ pub union_from_places : (n : ℕ) (a b v : List ℕ) → length a ≡ n → leng
 union_from_places n a b v la lb lv h =
     ext_get_or 0 v (union a b) (lv ∙ sym (length_union n a b la lb)) (λ i l. h i (omega arith) ∙ sym (union_at a b i))
 
--- covering and agreement, where the same is so of each byte
-pub covers_by_places : (m v k : List ℕ) (t : Bool) → length m ≡ 36 → length v ≡ 36 → length k ≡ 36 → Decides t ((i : ℕ) → i < 36 → bit_and (get_or m i 0) (get_or k i 0) ≡ get_or v i 0) → Decides t (Covers m v k)
-covers_by_places m v k t lm lv lk =
-    Decides-like t (λ h. sym (masked_from_places 36 m k v lm lk lv (λ i l. sym (h i l))))
-    (λ e i l. sym (masked_at m k i) ∙ ap (λ x. get_or x i 0) e)
+-- bits that are gathered are none where each element gives none
+pub gathers_none : {X : Type 0} (f : X → ℕ) (d : ℕ) (xs : List X) → fold (λ e x. bit_or e (f x)) d xs ≡ 0 → (d ≡ 0) × AllByRecursion (λ x. f x ≡ 0) xs
+gathers_none f d [] e = (e, tt)
+gathers_none f d (x ∷ xs) e =
+    let r = gathers_none f (bit_or d (f x)) xs e in
+    let p = or_none d (f x) r.0 in
+    (p.0, (p.1, r.1))
 
-pub agree_by_places : (m a b : List ℕ) (t : Bool) → length m ≡ 36 → length a ≡ 36 → length b ≡ 36 → Decides t ((i : ℕ) → i < 36 → bit_and (get_or m i 0) (get_or a i 0) ≡ bit_and (get_or m i 0) (get_or b i 0)) → Decides t (Agree m a b)
-agree_by_places m a b t lm la lb =
-    Decides-like t (λ h. masked_from_places 36 m b (masked m a) lm lb (length_masked 36 m a lm la) (λ i l. masked_at m a i ∙ h i l))
-    (λ e i l. sym (masked_at m a i) ∙ ap (λ x. get_or x i 0) e ∙ masked_at m b i)
+pub gathers_zero : {X : Type 0} (f : X → ℕ) (d : ℕ) (xs : List X) → d ≡ 0 → AllByRecursion (λ x. f x ≡ 0) xs → fold (λ e x. bit_or e (f x)) d xs ≡ 0
+gathers_zero f d [] e h = e
+gathers_zero f d (x ∷ xs) e h = gathers_zero f (bit_or d (f x)) xs (ap₂ bit_or e h.0) h.1
 
--- a loop that gathers in d the bits in which f and g differ, at place i
-abbrev pub Gathered : (ℕ → ℕ) → (ℕ → ℕ) → ℕ → ℕ → Type 0
-Gathered f g d i = (d ≡ 0 → (k : ℕ) → k < i → f k ≡ g k) × (((k : ℕ) → k < 36 → f k ≡ g k) → d ≡ 0)
+-- the bits in which a byte of a key differs from the value's, under the mask
+abbrev pub apart : (ℕ × ℕ) × ℕ → ℕ
+apart p = bit_xor (bit_and p.0.0 p.1) p.0.1
 
-pub gathered_more : (f g : ℕ → ℕ) (d i : ℕ) → i < 36 → Gathered f g d i → Gathered f g (bit_or d (bit_xor (f i) (g i))) (i + 1)
-gathered_more f g d i l h = (
-  (λ e. let p = or_none d (bit_xor (f i) (g i)) e in below_more _ i (h.0 p.0) (same_from_xor (f i) (g i) p.1)),
-  λ s. ap₂ bit_or (h.1 s) (xor_same (f i) (g i) (s i l)),
+covers_from : (m v k : List ℕ) → length m ≡ length v → length v ≡ length k → AllByRecursion (λ p. apart p ≡ 0) (zip (zip m v) k) → masked m k ≡ v
+unfolding masked
+covers_from [] [] k l n h = refl
+covers_from [] (y ∷ v) k l n h = absurd (omega arith)
+covers_from (x ∷ m) [] k l n h = absurd (omega arith)
+covers_from (x ∷ m) (y ∷ v) [] l n h = absurd (omega arith)
+covers_from (x ∷ m) (y ∷ v) (z ∷ k) l n h =
+    ap₂ ◌∷◌ (same_from_xor (bit_and x z) y h.0) (covers_from m v k (omega arith) (omega arith) h.1)
+
+covers_back : (m v k : List ℕ) → length m ≡ length v → length v ≡ length k → masked m k ≡ v → AllByRecursion (λ p. apart p ≡ 0) (zip (zip m v) k)
+unfolding masked
+covers_back [] [] k l n e = tt
+covers_back [] (y ∷ v) k l n e = tt
+covers_back (x ∷ m) [] k l n e = tt
+covers_back (x ∷ m) (y ∷ v) [] l n e = tt
+covers_back (x ∷ m) (y ∷ v) (z ∷ k) l n e =
+    let here : bit_and x z ≡ y = cc in
+    let rest : masked m k ≡ v = cc in
+    (xor_same (bit_and x z) y here, covers_back m v k (omega arith) (omega arith) rest)
+
+-- covering, by the bits that are gathered
+pub covers_gathered : (m v k : List ℕ) (d : ℕ) → length m ≡ length v → length v ≡ length k → d ≡ fold (λ e p. bit_or e (apart p)) 0 (zip (zip m v) k) → Decides (eqb d 0) (Covers m v k)
+covers_gathered m v k d l n e = (
+  λ t. covers_from m v k l n (gathers_none apart 0 (zip (zip m v) k) (sym e ∙ eqb-true d 0 t)).1,
+  λ c. eq-eqb d 0 (e ∙ gathers_zero apart 0 (zip (zip m v) k) refl (covers_back m v k l n c)),
 )
-
-pub gathered_all : (f g : ℕ → ℕ) (d i : ℕ) → 36 ≤ i → Gathered f g d i → Decides (eqb d 0) ((k : ℕ) → k < 36 → f k ≡ g k)
-gathered_all f g d i l h = ((λ t k q. h.0 (eqb-true d 0 t) k (omega arith)), λ s. eq-eqb d 0 (h.1 s))

@@ -8,5 +8,5 @@ mod tests;
 
 pub use masked_key::{MaskedKey, OutsideMask};
 pub use rows::{
-    agree, covers, empty_mask, first_outside, masked, overlaps, union, union_into, within,
+    agree, covers, empty_mask, first_outside, masked, one_byte, overlaps, union, union_into, within,
 };

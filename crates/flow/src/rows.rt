@@ -1,18 +1,26 @@
 // Masks, values and keys as plain rows of 36 bytes.
-ghost use Rattle.std.specs.Prelude.{◌≡◌, Decides};
+ghost use Rattle.std.specs.Prelude.{◌≡◌, ◌==◌, Decides, bit_and, bit_or, bit_xor, not, position, slice_set, zip};
+ghost use Rattle.std.specs.List.{fold};
 ghost use Rattle.flow.specs.Masks.{covered, Covers, agreeing, Agree, inside, Within, first_outside, masked, union, empty_mask, overlapping, Overlap};
+
+// The bits in which the key's bits under the mask differ from the value, gathered from all bytes.
+#[inline(always)]
+fn differing(mask: &[u8; 36], value: &[u8; 36], key: &[u8; 36]) -> u8
+    ensures { result ≡ fold (λ d p. bit_or d (bit_xor (bit_and p.0.0 p.1) p.0.1)) 0 (zip (zip mask.now value.now) key.now) }
+{
+    // with no exit on the way the compiler takes many bytes at once
+    mask.iter()
+        .zip(value)
+        .zip(key)
+        .fold(0, |differ, ((m, v), k)| differ | ((m & k) ^ v))
+}
 
 // Whether the mask and the value cover the key: its bits under the mask are the value.
 pub fn covers(mask: &[u8; 36], value: &[u8; 36], key: &[u8; 36]) -> bool
     ensures test { result ≡ covered mask.now value.now key.now }
     ensures means { Decides result (Covers mask.now value.now key.now) }
 {
-    // with no exit on the way the compiler takes many bytes at once
-    let mut differ = 0;
-    for i in 0..36 {
-        differ |= (mask[i] & key[i]) ^ value[i];
-    }
-    differ == 0
+    differing(mask, value, key) == 0
 }
 
 // Whether two keys agree in the mask's bits.
@@ -20,11 +28,7 @@ pub fn agree(mask: &[u8; 36], a: &[u8; 36], b: &[u8; 36]) -> bool
     ensures test { result ≡ agreeing mask.now a.now b.now }
     ensures means { Decides result (Agree mask.now a.now b.now) }
 {
-    let mut apart = 0;
-    for i in 0..36 {
-        apart |= (mask[i] & a[i]) ^ (mask[i] & b[i]);
-    }
-    apart == 0
+    differing(mask, &masked(mask, b), a) == 0
 }
 
 // Whether `a` has no bit outside `b`.
@@ -35,16 +39,18 @@ pub fn within(a: &[u8; 36], b: &[u8; 36]) -> bool
     covers(b, a, a)
 }
 
+// The first place at which the value has a bit that the mask lacks.
+fn lacking(mask: &[u8; 36], value: &[u8; 36]) -> Option<usize>
+    ensures { result ≡ position (λ p. not (bit_and p.0 p.1 == p.1)) (zip mask.now value.now) }
+{
+    mask.iter().zip(value).position(|(m, v)| m & v != *v)
+}
+
 // The first byte of the value that has a bit outside the mask.
 pub fn first_outside(mask: &[u8; 36], value: &[u8; 36]) -> Option<usize>
     ensures { result ≡ first_outside mask.now value.now }
 {
-    for byte in 0..36 {
-        if mask[byte] & value[byte] != value[byte] {
-            return Some(byte);
-        }
-    }
-    None
+    lacking(mask, value)
 }
 
 // The key's bits under the mask.
@@ -52,6 +58,7 @@ pub fn masked(mask: &[u8; 36], key: &[u8; 36]) -> [u8; 36]
     ensures { result ≡ masked mask.now key.now }
 {
     let mut bits = *key;
+    // by places: what a loop over `bits.iter_mut().zip(mask)` writes no contract tells
     for i in 0..36 {
         bits[i] &= mask[i];
     }
@@ -62,6 +69,7 @@ pub fn masked(mask: &[u8; 36], key: &[u8; 36]) -> [u8; 36]
 pub fn union_into(into: &mut [u8; 36], mask: &[u8; 36])
     ensures { into.new ≡ union into.old mask.now }
 {
+    // by places, as above
     for i in 0..36 {
         into[i] |= mask[i];
     }
@@ -81,6 +89,17 @@ pub fn empty_mask() -> [u8; 36]
     ensures { result ≡ empty_mask }
 {
     [0; 36]
+}
+
+// The row with one byte, if the place is one of the 36.
+pub fn one_byte(at: usize, byte: u8) -> [u8; 36]
+    ensures { result ≡ slice_set empty_mask at byte }
+{
+    let mut row = empty_mask();
+    if at < 36 {
+        row[at] = byte;
+    }
+    row
 }
 
 // Whether two rows overlap: their values agree in the bits that both masks have. Where no value has a bit

@@ -1,9 +1,11 @@
 // Bytes as a script writes them: two hexadecimal digits each, with nothing between.
-ghost use Rattle.std.specs.Prelude.{◌≡◌, ℕ, ◌+◌, ◌^◌, ◌<◌, IfSome, Ok, MatchResult};
+ghost use Rattle.std.specs.Prelude.{◌≡◌, ℕ, ◌+◌, ◌^◌, ◌<◌, IfSome, Some, Ok, MatchResult};
 ghost use Rattle.numeral.specs.declared.hex.HexFault.TheVariants.{Memory};
 ghost use Rattle.numeral.specs.Hex.{nibble_of, pair_of, hex_of, Refuses};
+ghost use Rattle.numeral.specs.HexFaults.{fault_text};
 
 use std::alloc::{AllocFailed, Global};
+use std::fmt;
 
 #[derive(Debug, Clone, Copy, PartialEq, Eq)]
 pub enum HexFault {
@@ -13,6 +15,21 @@ pub enum HexFault {
     Odd(usize),
     // the place of the first character that is no hexadecimal digit
     Digit(usize),
+}
+
+impl fmt::Display for HexFault {
+    ghost output = { λ fault. Some (fault_text fault) };
+
+    fn fmt<W: fmt::Write>(&self, f: &mut fmt::Formatter<W>) -> fmt::Result {
+        match self {
+            HexFault::Memory => write!(f, "no memory"),
+            HexFault::Odd(n) => write!(f, "the frame has an odd number of hexadecimal digits, {n}"),
+            HexFault::Digit(at) => write!(
+                f,
+                "no hexadecimal digit in the frame, behind {at} digits"
+            ),
+        }
+    }
 }
 
 impl From<AllocFailed<u8>> for HexFault {
@@ -37,16 +54,12 @@ pub fn nibble(b: u8) -> Option<u8>
 }
 
 // The byte that two characters write, of which the first stands at `at`.
-fn pair(at: usize, a: u8, b: u8) -> Result<u8, HexFault>
+pub fn pair(at: usize, a: u8, b: u8) -> Result<u8, HexFault>
     requires { at + 1 < 2 ^ 64 }
     ensures { result ≡ pair_of at (nibble_of a) (nibble_of b) }
 {
-    let Some(high) = nibble(a) else {
-        return Err(HexFault::Digit(at));
-    };
-    let Some(low) = nibble(b) else {
-        return Err(HexFault::Digit(at + 1));
-    };
+    let high = nibble(a).ok_or(HexFault::Digit(at))?;
+    let low = nibble(b).ok_or(HexFault::Digit(at + 1))?;
     Ok(high * 16 + low)
 }
 
@@ -57,12 +70,10 @@ pub fn hex_bytes(heap: Global, text: &[u8]) -> Result<Vec<u8>, HexFault>
     if text.len() % 2 != 0 {
         return Err(HexFault::Odd(text.len()));
     }
+    let (pairs, _) = text.as_chunks::<2>();
     let mut out = Vec::new(heap);
-    let mut i = 0;
-    while i + 1 < text.len() {
-        let x = pair(i, text[i], text[i + 1])?;
-        out.push(x)?;
-        i += 2;
+    for (i, [a, b]) in pairs.iter().enumerate() {
+        out.push(pair(2 * i, *a, *b)?)?;
     }
     Ok(out)
 }

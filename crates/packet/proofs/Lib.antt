@@ -1,7 +1,6 @@
 pub mod Bytes
 pub mod Fields
 pub mod Refusals
-pub mod Opening
 pub mod Keys
 pub mod Parts
 pub mod Padding

@@ -20,15 +20,15 @@ part f from n = take n (drop from f)
 abbrev pub bytes16 : ℕ → List ℕ
 bytes16 x = x / 256 ∷ x % 256 ∷ []
 
--- the four bytes of a 32-bit number
-abbrev pub bytes32 : ℕ → List ℕ
-bytes32 x = x / 16777216 ∷ x / 65536 % 256 ∷ x / 256 % 256 ∷ x % 256 ∷ []
-
 -- Ethernet II and 802.1Q ----------------------------------------------------------------------------------
 
 -- a tag stands behind the addresses
 abbrev pub tagged : List ℕ → Bool
 tagged f = word f 12 == 0x8100
+
+-- the tag's control information
+abbrev pub tag_of : List ℕ → Option ℕ
+tag_of f = cond (tagged f) (Some (word f 14)) None
 
 -- the type word, which stands behind the tag if there is one; only one tag is read
 abbrev pub type_word : List ℕ → ℕ

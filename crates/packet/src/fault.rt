@@ -2,6 +2,8 @@
 ghost use Rattle.std.specs.Prelude.{◌≡◌};
 ghost use Rattle.packet.specs.Faults.{refusal_of};
 
+use refusal::Refusal;
+
 #[derive(Debug, Clone, Copy, PartialEq, Eq)]
 pub enum FrameFault {
     // the in-port is not 1 to 63
@@ -14,28 +16,28 @@ pub enum FrameFault {
     ShortTagged(usize),
 }
 
-impl FrameFault {
-    // The refusal's number.
-    pub fn number(&self) -> u8
-        ensures { result ≡ (refusal_of self.now).0 }
-    {
-        match self {
-            FrameFault::InPort(_) => 1,
-            FrameFault::Short(_) => 2,
-            FrameFault::Long(_) => 3,
-            FrameFault::ShortTagged(_) => 4,
-        }
-    }
+// The refusal's number and detail: the port, or the frame's length.
+impl From<FrameFault> for Refusal {
+    ghost from_gives = { λ f r. (r.number, r.detail) ≡ refusal_of f };
 
-    // What the refusal says beside its number: the port, or the frame's length.
-    pub fn detail(&self) -> u64
-        ensures { result ≡ (refusal_of self.now).1 }
-    {
-        match self {
-            FrameFault::InPort(port) => u64::from(*port),
-            FrameFault::Short(len) => *len as u64,
-            FrameFault::Long(len) => *len as u64,
-            FrameFault::ShortTagged(len) => *len as u64,
+    fn from(fault: FrameFault) -> Refusal {
+        match fault {
+            FrameFault::InPort(port) => Refusal {
+                number: 1,
+                detail: u64::from(port),
+            },
+            FrameFault::Short(len) => Refusal {
+                number: 2,
+                detail: len as u64,
+            },
+            FrameFault::Long(len) => Refusal {
+                number: 3,
+                detail: len as u64,
+            },
+            FrameFault::ShortTagged(len) => Refusal {
+                number: 4,
+                detail: len as u64,
+            },
         }
     }
 }

@@ -1,11 +1,12 @@
 // From a frame to its key: Ethernet II, one 802.1Q tag, IPv4, TCP and UDP.
 #![tactic(auto)]
 
-mod ethernet;
 pub mod fault;
 mod ipv4;
 pub mod laws;
+mod places;
 pub mod reader;
+mod transport;
 
 pub use fault::FrameFault;
 pub use laws::reading_laws;

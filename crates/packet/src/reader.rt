@@ -1,15 +1,14 @@
 // A reader over a frame that is lent.
-ghost use Rattle.std.specs.Prelude.{◌≡◌, ◌++◌, Some, None, MatchResult, bit_or};
+ghost use Rattle.std.specs.Prelude.{◌≡◌, ◌++◌, true, false, Some, None, MatchOption, MatchResult};
 ghost use Rattle.std.specs.Option.{option_map};
+ghost use Rattle.std.proofs.Props.{props};
 ghost use Rattle.packet.specs.Faults.{refusal_of};
-ghost use Rattle.packet.specs.Frames.{Span, refusal, part, vlan_field, type_word, type_field, network_at, network, key_layout, link_layout, key_of, ipv4_of, transport_of, header_part, transport_part};
-ghost use Rattle.packet.specs.Readings.{Opened, Says, span_of};
+ghost use Rattle.packet.specs.Frames.{Span, refusal, part, tag_of, vlan_field, type_word, type_field, network_at, network, network_fields, link_layout, has_ipv4, key_of, ipv4_of, transport_of};
+ghost use Rattle.packet.specs.Readings.{span_of};
 
-use super::ethernet::{Header, take_header, take_tag};
 use super::fault::FrameFault;
-use super::ipv4::{
-    Lengths, field_bytes, fragment_kind, network_fields, put, sound_lengths, word_at,
-};
+use super::ipv4::Packet;
+use super::places::{put, word_at};
 
 // The 36 bytes by which rules tell frames apart.
 pub type Key = [u8; 36];
@@ -21,148 +20,130 @@ pub struct Part<'a> {
     pub bytes: &'a [u8],
 }
 
-// A frame that may be read, its Ethernet header taken apart: `network` is what follows the type word, from `offset` on.
+// A frame that may be read: the tag's control information, if it has a tag, and the type word.
 #[derive(Clone, Copy)]
 pub struct Reader<'a> {
     in_port: u16,
-    destination: [u8; 6],
-    source: [u8; 6],
-    vlan: u16,
+    frame: &'a [u8],
+    tag: Option<u16>,
     ethertype: u16,
-    offset: u8,
-    network: &'a [u8],
+    ghost admitted: { refusal in_port frame.now ≡ None } by { Prim.hlevel props },
+    ghost tag_is: { tag ≡ tag_of frame.now } by { Prim.hlevel props },
+    ghost type_is: { ethertype ≡ type_word frame.now },
 }
 
 impl<'a> Reader<'a> {
     // Takes a frame that came in at a port, or says why it is not read.
     pub fn open(in_port: u16, frame: &'a [u8]) -> Result<Reader<'a>, FrameFault>
-        ensures { MatchResult result (λ x. (refusal in_port frame.now ≡ None) × Opened in_port frame.now x.in_port x.destination x.source x.vlan x.ethertype x.offset x.network.now × Says in_port frame.now x.in_port x.destination x.source x.vlan x.ethertype x.offset x.network.now) (λ e. refusal in_port frame.now ≡ Some (refusal_of e)) }
+        ensures { MatchResult result (λ x. (refusal in_port frame.now ≡ None) × (x.in_port ≡ in_port) × (x.frame.now ≡ frame.now)) (λ e. refusal in_port frame.now ≡ Some (refusal_of e)) }
     {
-        admit(in_port, frame)?;
-        Ok(Reader::over(in_port, frame))
-    }
-
-    // Takes apart a frame that may be read.
-    fn over(in_port: u16, frame: &'a [u8]) -> Reader<'a>
-        requires { refusal in_port frame.now ≡ None }
-        ensures opened { Opened in_port frame.now result.in_port result.destination result.source result.vlan result.ethertype result.offset result.network.now }
-        ensures says { Says in_port frame.now result.in_port result.destination result.source result.vlan result.ethertype result.offset result.network.now }
-    {
-        let Header {
-            destination,
-            source,
-            ethertype,
-            rest,
-        } = take_header(frame);
+        let len = frame.len();
+        if !matches!(in_port, 1..=63) {
+            return Err(FrameFault::InPort(in_port));
+        }
+        let header = frame.first_chunk::<14>().ok_or(FrameFault::Short(len))?;
+        if len > 9216 {
+            return Err(FrameFault::Long(len));
+        }
+        let ethertype = word_at(header, 12);
         if ethertype != 0x8100 {
-            return Reader {
+            return Ok(Reader {
                 in_port,
-                destination,
-                source,
-                vlan: 0,
+                frame,
+                tag: None,
                 ethertype,
-                offset: 14,
-                network: rest,
-            };
+            });
         }
-        let tag = take_tag(rest);
-        Reader {
+        let header = frame
+            .first_chunk::<18>()
+            .ok_or(FrameFault::ShortTagged(len))?;
+        Ok(Reader {
             in_port,
-            destination,
-            source,
-            vlan: key_vlan(tag.tci),
-            ethertype: tag.ethertype,
-            offset: 18,
-            network: tag.rest,
-        }
+            frame,
+            tag: Some(word_at(header, 14)),
+            ethertype: word_at(header, 16),
+        })
     }
 
     // The frame's key.
+    #[tactic(auto, using(crate::proofs::Keys::halves_laid), unfolding(crate::specs::Frames::key_of))]
     pub fn key(&self) -> Key
-        ensures { result ≡ key_layout self.now.in_port self.now.destination self.now.source self.now.ethertype self.now.vlan self.now.network.now }
+        ensures { result ≡ key_of self.now.in_port self.now.frame.now }
     {
-        join(
-            self.link_bytes(),
-            field_bytes(network_fields(self.ethertype, self.network)),
-        )
+        let mut key = [0u8; 36];
+        put(&mut key, 0, &self.link_bytes());
+        put(&mut key, 18, &self.network_bytes());
+        key
     }
 
     // The IPv4 header, where there is a sound one.
+    #[tactic(auto, unfolding(crate::specs::Frames::ipv4_of))]
     pub fn ipv4(&self) -> Option<Part<'a>>
-        ensures { option_map span_of result ≡ header_part self.now.ethertype self.now.offset self.now.network.now }
+        ensures { option_map span_of result ≡ ipv4_of self.now.frame.now }
     {
-        if self.ethertype != 0x0800 {
-            return None;
-        }
-        let n = self.network;
-        let Some(Lengths { header, .. }) = sound_lengths(n) else {
-            return None;
-        };
-        let bytes = &n[0..header];
-        let offset = usize::from(self.offset);
+        let packet = self.packet()?;
+        let offset = self.offset();
+        let bytes = packet.head();
         Some(Part { offset, bytes })
     }
 
     // The transport part of an IPv4 packet that is no later fragment: from the header's end to the total length.
+    #[tactic(auto, unfolding(crate::specs::Frames::transport_of))]
     pub fn transport(&self) -> Option<Part<'a>>
-        ensures { option_map span_of result ≡ transport_part self.now.ethertype self.now.offset self.now.network.now }
+        ensures { option_map span_of result ≡ transport_of self.now.frame.now }
+    {
+        let packet = self.packet()?;
+        let bytes = packet.transport()?;
+        let offset = self.offset() + packet.header;
+        Some(Part { offset, bytes })
+    }
+
+    // The IPv4 packet, where there is a sound header.
+    fn packet(&self) -> Option<Packet<'a>>
+        ensures { MatchOption result (has_ipv4 (type_word self.now.frame.now) (network self.now.frame.now) ≡ false) (λ p. (has_ipv4 (type_word self.now.frame.now) (network self.now.frame.now) ≡ true) × (p.bytes.now ≡ network self.now.frame.now)) }
     {
         if self.ethertype != 0x0800 {
             return None;
         }
-        let n = self.network;
-        let Some(Lengths { header, total }) = sound_lengths(n) else {
-            return None;
-        };
-        if fragment_kind(n) == 3 {
-            return None;
-        }
-        let bytes = &n[header..total];
-        let offset = usize::from(self.offset) + header;
-        Some(Part { offset, bytes })
+        Packet::of(&self.frame[self.offset()..])
+    }
+
+    // Where the network bytes begin: behind the type word.
+    fn offset(&self) -> usize
+        ensures { result ≡ network_at self.now.frame.now }
+    {
+        if self.tag.is_some() { 18 } else { 14 }
     }
 
     // The key's first 18 bytes: what the port and the Ethernet header fill.
     fn link_bytes(&self) -> [u8; 18]
-        ensures { result ≡ link_layout self.now.in_port self.now.destination self.now.source self.now.ethertype self.now.vlan }
+        ensures { result ≡ link_layout self.now.in_port (part self.now.frame.now 0 6) (part self.now.frame.now 6 6) (type_word self.now.frame.now) (vlan_field self.now.frame.now) }
     {
         let mut out = [0u8; 18];
         put(&mut out, 0, &self.in_port.to_be_bytes());
-        put(&mut out, 2, &self.destination);
-        put(&mut out, 8, &self.source);
+        put(&mut out, 2, &self.frame[0..6]);
+        put(&mut out, 8, &self.frame[6..12]);
         put(&mut out, 14, &key_type(self.ethertype).to_be_bytes());
-        put(&mut out, 16, &self.vlan.to_be_bytes());
+        put(&mut out, 16, &self.vlan().to_be_bytes());
         out
     }
-}
 
-// The two halves of a key.
-fn join(front: [u8; 18], back: [u8; 18]) -> Key
-    ensures { result ≡ front ++ back }
-{
-    let mut key = [0u8; 36];
-    key[0..18].copy_from_slice(&front);
-    key[18..36].copy_from_slice(&back);
-    key
-}
+    // The key's last 18 bytes: what IPv4, TCP and UDP fill, zero where there is no sound IPv4 header.
+    fn network_bytes(&self) -> [u8; 18]
+        ensures { result ≡ network_fields (type_word self.now.frame.now) (network self.now.frame.now) }
+    {
+        match self.packet() {
+            Some(packet) => packet.key_bytes(),
+            None => [0; 18],
+        }
+    }
 
-// Whether a frame that came in at a port is read.
-fn admit(in_port: u16, frame: &[u8]) -> Result<(), FrameFault>
-    ensures { MatchResult result (λ _. refusal in_port frame.now ≡ None) (λ e. refusal in_port frame.now ≡ Some (refusal_of e)) }
-{
-    if in_port < 1 || in_port > 63 {
-        return Err(FrameFault::InPort(in_port));
+    // The key's VLAN: a tag's control information with bit 12 set, 0 without a tag.
+    fn vlan(&self) -> u16
+        ensures { result ≡ vlan_field self.now.frame.now }
+    {
+        self.tag.map_or(0, |tci| tci | 0x1000)
     }
-    if frame.len() < 14 {
-        return Err(FrameFault::Short(frame.len()));
-    }
-    if frame.len() > 9216 {
-        return Err(FrameFault::Long(frame.len()));
-    }
-    if word_at(frame, 12) == 0x8100 && frame.len() < 18 {
-        return Err(FrameFault::ShortTagged(frame.len()));
-    }
-    Ok(())
 }
 
 // What a frame says: its key, and its parts where they are present.
@@ -191,13 +172,6 @@ pub fn read_key(in_port: u16, frame: &[u8]) -> Result<Key, FrameFault>
 {
     let reader = Reader::open(in_port, frame)?;
     Ok(reader.key())
-}
-
-// The key's VLAN: a tag's control information, with bit 12 set.
-fn key_vlan(tci: u16) -> u16
-    ensures { result ≡ bit_or tci 0x1000 }
-{
-    tci | 0x1000
 }
 
 // The key's type: a word below 0x0600 is a length, and no type.

@@ -1,13 +1,12 @@
 -- What a book holds after a call: its line, and whether the answers differed.
-use Rattle.std.specs.Prelude.{◌≡◌, ℕ, Bool, cond, not, ◌||◌, List, ◌++◌, None, vec_items}
-use Rattle.text.specs.declared.answer.Answer.{Answer}
+use Rattle.std.specs.Prelude.{◌≡◌, ℕ, Bool, cond, not, ◌||◌, List, ◌++◌, None}
 use Rattle.text.specs.declared.place.Place.{Place}
-use Rattle.text.specs.Answers.{same_answer}
+use Rattle.text.specs.Answers.{Answer, same_answer}
 use Rattle.pair.specs.declared.book.Book.{Book}
 
 -- the bytes that are to be written
 abbrev pub lines : Book → List ℕ
-lines b = vec_items b.out
+lines b = b.page
 
 -- the line's text stands behind, or nothing where there is no memory
 abbrev pub Wrote : Bool → Book → Book → List ℕ → Type 0

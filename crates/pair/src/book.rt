@@ -3,26 +3,21 @@ ghost use Rattle.std.specs.Prelude.{◌≡◌, false, not, [], is_ok, IfOk};
 ghost use Rattle.text.specs.Answers.{answer_line};
 ghost use Rattle.pair.specs.Books.{lines, Wrote, differs_with, at_line};
 
-use super::switches::Both;
+use datapath::RuleName;
+use sides::Sides;
 use std::alloc::{AllocError, Global};
 use std::collections::BTreeSet;
 use std::fmt;
-use text::answer::{Verb, answer_line, same};
+use text::answer::{Answer, Verb, answer_line};
+use text::page::Page;
 use text::place::Place;
-
-// A rule by its name.
-#[derive(Clone, Copy, PartialEq, Eq, PartialOrd, Ord)]
-pub struct Name {
-    pub table: u32,
-    pub id: u32,
-}
 
 #[derive(Drop)]
 pub struct Book {
     // the lines to be written
-    pub out: Vec<u8>,
+    pub page: Page,
     // the rules that stand
-    pub(crate) standing: BTreeSet<Name>,
+    pub(crate) standing: BTreeSet<RuleName>,
     pub(crate) differed: bool,
 }
 
@@ -42,54 +37,51 @@ impl Book {
         ensures { IfOk result (λ b. (lines b ≡ []) × (b.differed ≡ false)) }
     {
         Ok(Book {
-            out: Vec::with_capacity(heap, room)?,
+            page: Page::new(heap, room)?,
             standing: BTreeSet::new(heap),
             differed: false,
         })
     }
 
     // A rule stands.
-    pub(crate) fn stands(&mut self, table: u32, id: u32) -> Result<(), AllocError>
-        ensures out { self.new.out ≡ self.old.out }
+    pub(crate) fn stands(&mut self, name: RuleName) -> Result<(), AllocError>
+        ensures page { self.new.page ≡ self.old.page }
         ensures differed { self.new.differed ≡ self.old.differed }
     {
-        self.standing.insert(Name { table, id })?;
+        self.standing.insert(name)?;
         Ok(())
     }
 
     // It stands no more.
-    pub(crate) fn leaves(&mut self, table: u32, id: u32)
-        ensures out { self.new.out ≡ self.old.out }
+    pub(crate) fn leaves(&mut self, name: RuleName)
+        ensures page { self.new.page ≡ self.old.page }
         ensures differed { self.new.differed ≡ self.old.differed }
     {
-        self.standing.remove(&Name { table, id });
+        self.standing.remove(&name);
     }
 
     // Notes whether the two answers differ.
-    pub(crate) fn note(&mut self, both: Both)
-        ensures out { self.new.out ≡ self.old.out }
+    pub(crate) fn note(&mut self, answers: &Sides<Answer>)
+        ensures page { self.new.page ≡ self.old.page }
         ensures standing { self.new.standing ≡ self.old.standing }
-        ensures differed { self.new.differed ≡ differs_with self.old both.a both.b }
+        ensures differed { self.new.differed ≡ differs_with self.old answers.now.a answers.now.b }
     {
-        if !same(both.a, both.b) {
-            self.differed = true;
-        }
+        self.differed = self.differed || answers.a != answers.b;
     }
 
     // Writes a line that is not a frame's or a peek's.
-    pub(crate) fn answer(&mut self, line: u64, verb: Verb, both: Both) -> Result<(), AllocError>
-        ensures wrote { Wrote (is_ok result) self.old self.new (answer_line (at_line line) verb both.a both.b) }
+    pub(crate) fn answer(
+        &mut self,
+        line: u64,
+        verb: Verb,
+        answers: Sides<Answer>,
+    ) -> Result<(), AllocError>
+        ensures wrote { Wrote (is_ok result) self.old self.new (answer_line (at_line line) verb answers.a answers.b) }
         ensures standing { self.new.standing ≡ self.old.standing }
-        ensures differed { self.new.differed ≡ differs_with self.old both.a both.b }
+        ensures differed { self.new.differed ≡ differs_with self.old answers.a answers.b }
     {
-        self.note(both);
-        answer_line(
-            &mut self.out,
-            Place { line, frame: None },
-            verb,
-            both.a,
-            both.b,
-        )
+        self.note(&answers);
+        answer_line(&mut self.page, Place { line, frame: None }, verb, answers)
     }
 
     // Whether the switches agreed in every answer.

@@ -2,5 +2,5 @@
 #![tactic(auto)]
 
 pub mod book;
-pub mod calls;
+pub mod session;
 pub mod switches;

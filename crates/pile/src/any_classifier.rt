@@ -1,14 +1,13 @@
 // A classifier that is chosen at run time.
 ghost use Rattle.std.specs.Prelude.{◌≡◌, [], IfOk, Some, None, MatchResult};
 ghost use Rattle.classifier.specs.Faults.{refusal_of};
-ghost use Rattle.classifier.specs.Rules.{new_rule, found, FindMask};
+ghost use Rattle.classifier.specs.Rules.{fresh, found, FindMask};
 ghost use Rattle.classifier.specs.Tables.{add_refusal, added, missing_refusal, removed, credited};
 ghost use Rattle.pile.specs.Choices.{any_rules, order, new_order, order_added, order_removed, find_mask};
 ghost use Rattle.pile.specs.declared.any_classifier.AnyClassifier.TheVariants.{Linear, Tuple};
 ghost use Rattle.classifier.specs.KeptLaws.{lawful_kept};
 
-use classifier::{Classifier, ClassifierFault, Find, Linear};
-use flow::MaskedKey;
+use classifier::{Classifier, ClassifierFault, Find, Linear, NewRule};
 use std::alloc::{AllocError, Global};
 use tuple_space::TupleSpace;
 
@@ -49,20 +48,13 @@ impl Classifier for AnyClassifier {
         }
     }
 
-    fn add(
-        &mut self,
-        id: u32,
-        priority: u16,
-        key: &MaskedKey,
-        ports: u64,
-        next: u16,
-    ) -> Result<(), ClassifierFault>
-        ensures cases { MatchResult result (λ _. (add_refusal (any_rules self.old) (new_rule id priority key.now.mask key.now.value ports next) ≡ None) × (any_rules self.new ≡ added (any_rules self.old) (new_rule id priority key.now.mask key.now.value ports next))) (λ e. (add_refusal (any_rules self.old) (new_rule id priority key.now.mask key.now.value ports next) ≡ Some (refusal_of e)) × (any_rules self.new ≡ any_rules self.old)) }
-        ensures order { MatchResult result (λ _. order self.new ≡ order_added (order self.old) (any_rules self.old) key.now.mask) (λ e. order self.new ≡ order self.old) }
+    fn add(&mut self, new: &NewRule) -> Result<(), ClassifierFault>
+        ensures cases { MatchResult result (λ _. (add_refusal (any_rules self.old) (fresh new.now) ≡ None) × (any_rules self.new ≡ added (any_rules self.old) (fresh new.now))) (λ e. (add_refusal (any_rules self.old) (fresh new.now) ≡ Some (refusal_of e)) × (any_rules self.new ≡ any_rules self.old)) }
+        ensures order { MatchResult result (λ _. order self.new ≡ order_added (order self.old) (any_rules self.old) new.now.key.mask) (λ e. order self.new ≡ order self.old) }
     {
         match self {
-            AnyClassifier::Linear(linear) => linear.add(id, priority, key, ports, next),
-            AnyClassifier::Tuple(tuple) => tuple.add(id, priority, key, ports, next),
+            AnyClassifier::Linear(linear) => linear.add(new),
+            AnyClassifier::Tuple(tuple) => tuple.add(new),
         }
     }
 

@@ -1,7 +1,11 @@
 -- A row from its digits, pair by pair.
-use Rattle.std.proofs.Common.{◌≡◌, ℕ, ◌+◌, ◌*◌, ◌<◌, List, [], ◌∷◌, ◌++◌, length, get_or, take, drop, set, Some, None, Option, sym, refl, ap, ◌∙◌, append_assoc, append-nil, arith}
-use Rattle.std.proofs.lemmas.List.{drop_more, drop_all, take_all, take_more_set}
-use Rattle.rule.specs.Values.{pair_at, in_front, pairs_of}
+use Rattle.std.proofs.Common.{◌≡◌, ℕ, ◌+◌, ◌*◌, ◌<◌, List, [], ◌∷◌, ◌++◌, length, get_or, take, drop, set, Some, None, Option, Result, sym, refl, ap, ◌∙◌, append_assoc, append-nil, arith}
+use Rattle.std.specs.Result.{result_ok}
+use Rattle.std.proofs.lemmas.List.{drop_all, take_all, take_more_set}
+use Rattle.numeral.specs.declared.hex.HexFault.{HexFault}
+use Rattle.numeral.specs.Hex.{nibble_of, pair_of}
+use Rattle.numeral.proofs.Pairs.{pair_then}
+use Rattle.rule.specs.Values.{paired, pair_at, in_front, pairs_of}
 
 -- the bytes that are read, with those that follow
 abbrev pub behind : List ℕ → Option (List ℕ) → Option (List ℕ)
@@ -14,17 +18,19 @@ moved xs x (Some ys) = ap Some (append_assoc xs (x ∷ []) ys)
 
 two_on : (t : List ℕ) (i : ℕ) → 2 * i + 1 < length t → pairs_of (drop (2 * i) t) ≡ in_front (pair_at t (2 * i)) (pairs_of (drop (2 * (i + 1)) t))
 unfolding pairs_of
-two_on t i h =
-    let p : 2 * i < length t = omega arith in
-    let s : (2 * i + 1) + 1 ≡ 2 * (i + 1) = omega arith in
-    ap pairs_of (drop_more t (2 * i) 0 p ∙ ap (λ z. get_or t (2 * i) 0 ∷ z) (drop_more t (2 * i + 1) 0 h ∙ ap (λ n. get_or t (2 * i + 1) 0 ∷ drop n t) s))
+two_on t i h = ap pairs_of (pair_then t i h)
 
-pub start : (t row : List ℕ) → behind (take 0 row) (pairs_of (drop (2 * 0) t)) ≡ pairs_of t
-start t row = same (pairs_of t)
-  where
-    same : (o : Option (List ℕ)) → behind [] o ≡ o
-    same None = refl
-    same (Some ys) = refl
+ok_pair : (at : ℕ) (high low : Option ℕ) → result_ok (pair_of at high low) ≡ paired high low
+ok_pair at None None = refl
+ok_pair at None (Some low) = refl
+ok_pair at (Some high) None = refl
+ok_pair at (Some high) (Some low) = refl
+
+-- a byte that is read from pair i
+pub byte_is : (t p : List ℕ) (i : ℕ) (r : Result ℕ HexFault) → p ≡ get_or t (2 * i) 0 ∷ get_or t (2 * i + 1) 0 ∷ [] → r ≡ pair_of (2 * i) (nibble_of (get_or p 0 0)) (nibble_of (get_or p 1 0)) → result_ok r ≡ pair_at t (2 * i)
+byte_is t p i r q e =
+    ap result_ok (e ∙ ap (λ p. pair_of (2 * i) (nibble_of (get_or p 0 0)) (nibble_of (get_or p 1 0))) q)
+    ∙ ok_pair (2 * i) (nibble_of (get_or t (2 * i) 0)) (nibble_of (get_or t (2 * i + 1) 0))
 
 pub stop : (t row : List ℕ) (i : ℕ) → 2 * i + 1 < length t → None ≡ pair_at t (2 * i) → behind (take i row) (pairs_of (drop (2 * i) t)) ≡ None
 stop t row i h e = ap (behind (take i row)) (two_on t i h ∙ ap (λ o. in_front o (pairs_of (drop (2 * (i + 1)) t))) (sym e))

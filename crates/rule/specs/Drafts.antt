@@ -1,117 +1,96 @@
--- What a draft of a rule holds after a word NAME=VALUE.
-use Rattle.std.specs.Prelude.{◌≡◌, ℕ, ◌+◌, ◌/◌, ◌^◌, Bool, cond, not, ◌&&◌, List, replicate, Some, None, Ok, Err, codes, Option, Result, ◌==◌, bit_and, bit_or}
+-- What a draft of a rule holds after a word NAME=VALUE, and the rule that it says.
+use Rattle.std.specs.Prelude.{◌≡◌, ℕ, ◌^◌, cond, List, replicate, Some, None, Ok, Err, codes, Option, Result, ◌==◌, bit_and, bit_or, unwrap_or}
 use Rattle.std.specs.Str.{bytes_eq}
 use Rattle.numeral.specs.Numbers.{number_of, of_bits}
+use Rattle.datapath.specs.declared.level.RuleRecord.{RuleRecord}
 use Rattle.rule.specs.declared.draft.Draft.{Draft}
+use Rattle.datapath.specs.declared.level.RuleName.{RuleName}
 use Rattle.rule.specs.declared.draft.WordFault.{WordFault}
 use Rattle.rule.specs.declared.draft.WordFault.TheVariants.{Shape, Unknown, Twice, Table, Id, Priority, Next, Ports, Bytes, Value, Mask}
-use Rattle.rule.specs.declared.field.FieldFault.{FieldFault}
-use Rattle.rule.specs.declared.field.FieldFault.TheVariants.{Unknown as NoField, Value as NoValue, Mask as NoMask}
+use Rattle.rule.specs.declared.draft.DraftFault.{DraftFault}
+use Rattle.rule.specs.declared.draft.DraftFault.TheVariants.{Table as LacksTable, Id as LacksId, Mask as LacksMask, Value as LacksValue, Mixed}
+use Rattle.rule.specs.declared.field.Field.{Field}
+use Rattle.rule.specs.declared.rows.FieldFault.{FieldFault}
+use Rattle.rule.specs.declared.rows.FieldFault.TheVariants.{Unknown as NoField, Value as NoValue, Mask as NoMask}
+use Rattle.rule.specs.declared.rows.Rows.{Rows}
 use Rattle.rule.specs.Fields.{field_named}
 use Rattle.rule.specs.Ports.{ports_of}
-use Rattle.rule.specs.Rows.{set_answer, mask_after, value_after}
+use Rattle.rule.specs.Rows.{set_answer, rows_after}
 use Rattle.rule.specs.Values.{row_of}
 
--- a name may stand once: its bit is not set yet
-abbrev pub once : Draft → ℕ → Result Draft WordFault → Result Draft WordFault
-once d bit r = cond (bit_and d.seen bit == 0) r (Err Twice)
-
--- a value that is there, or a fault
-abbrev pub or_fault : {X : Type 0} → WordFault → Option X → (X → Draft) → Result Draft WordFault
-or_fault e None f = Err e
-or_fault e (Some x) f = Ok (f x)
-
--- a draft with one word more; the name's bit is set
-abbrev pub with_table : Draft → ℕ → Draft
-with_table d n = record { rule = record { table = n; id = d.rule.id; priority = d.rule.priority; mask = d.rule.mask; value = d.rule.value; ports = d.rule.ports; next = d.rule.next }; seen = bit_or d.seen 1 }
-
-abbrev pub with_id : Draft → ℕ → Draft
-with_id d n = record { rule = record { table = d.rule.table; id = n; priority = d.rule.priority; mask = d.rule.mask; value = d.rule.value; ports = d.rule.ports; next = d.rule.next }; seen = bit_or d.seen 2 }
-
-abbrev pub with_priority : Draft → ℕ → Draft
-with_priority d n = record { rule = record { table = d.rule.table; id = d.rule.id; priority = n; mask = d.rule.mask; value = d.rule.value; ports = d.rule.ports; next = d.rule.next }; seen = bit_or d.seen 4 }
-
-abbrev pub with_next : Draft → ℕ → Draft
-with_next d n = record { rule = record { table = d.rule.table; id = d.rule.id; priority = d.rule.priority; mask = d.rule.mask; value = d.rule.value; ports = d.rule.ports; next = n }; seen = bit_or d.seen 8 }
-
-abbrev pub with_ports : Draft → ℕ → Draft
-with_ports d n = record { rule = record { table = d.rule.table; id = d.rule.id; priority = d.rule.priority; mask = d.rule.mask; value = d.rule.value; ports = n; next = d.rule.next }; seen = bit_or d.seen 16 }
-
--- the word table=
-abbrev pub table_word : Draft → List ℕ → Result Draft WordFault
-table_word d t = once d 1 (or_fault Table (of_bits 32 (number_of t)) (with_table d))
-
--- the word id=
-abbrev pub id_word : Draft → List ℕ → Result Draft WordFault
-id_word d t = once d 2 (or_fault Id (of_bits 32 (number_of t)) (with_id d))
-
--- the word priority=
-abbrev pub priority_word : Draft → List ℕ → Result Draft WordFault
-priority_word d t = once d 4 (or_fault Priority (of_bits 16 (number_of t)) (with_priority d))
-
--- the word next=
-abbrev pub next_word : Draft → List ℕ → Result Draft WordFault
-next_word d t = once d 8 (or_fault Next (of_bits 16 (number_of t)) (with_next d))
-
--- the word ports=
-abbrev pub ports_word : Draft → List ℕ → Result Draft WordFault
-ports_word d t = once d 16 (or_fault Ports (ports_of t) (with_ports d))
-
--- the words mask= and value=
-abbrev pub with_mask : Draft → List ℕ → Draft
-with_mask d row = record { rule = record { table = d.rule.table; id = d.rule.id; priority = d.rule.priority; mask = row; value = d.rule.value; ports = d.rule.ports; next = d.rule.next }; seen = bit_or d.seen 32 }
-
-abbrev pub with_value : Draft → List ℕ → Draft
-with_value d row = record { rule = record { table = d.rule.table; id = d.rule.id; priority = d.rule.priority; mask = d.rule.mask; value = row; ports = d.rule.ports; next = d.rule.next }; seen = bit_or d.seen 64 }
-
-abbrev pub mask_word : Draft → List ℕ → Result Draft WordFault
-mask_word d t = once d 32 (or_fault Bytes (row_of t) (with_mask d))
-
-abbrev pub value_word : Draft → List ℕ → Result Draft WordFault
-value_word d t = once d 64 (or_fault Bytes (row_of t) (with_value d))
-
--- a field's mask and value in their rows; its bit is 8 and its first byte in the key
-abbrev pub with_rows : Draft → ℕ → List ℕ → List ℕ → Draft
-with_rows d at m v = record { rule = record { table = d.rule.table; id = d.rule.id; priority = d.rule.priority; mask = m; value = v; ports = d.rule.ports; next = d.rule.next }; seen = bit_or d.seen (2 ^ (8 + at)) }
-
-abbrev pub field_by : Draft → Result ℕ FieldFault → List ℕ → List ℕ → Result Draft WordFault
-field_by d (Err NoField) m v = Err Unknown
-field_by d (Err NoValue) m v = Err Value
-field_by d (Err NoMask) m v = Err Mask
-field_by d (Ok at) m v = once d (2 ^ (8 + at)) (Ok (with_rows d at m v))
-
--- the word of a field
-abbrev pub field_word : Draft → List ℕ → List ℕ → Result Draft WordFault
-field_word d name t =
-    field_by d (set_answer (field_named name) t) (mask_after (field_named name) t d.rule.mask)
-    (value_after (field_named name) t d.rule.value)
-
--- r answers what is made of a draft, which is kept where it is refused
-abbrev pub Turns : Draft → Draft → Result (Unit {0}) WordFault → Result Draft WordFault → Type 0
+-- r answers what is made of a value, which is kept where it is refused
+abbrev pub Turns : {S : Type 0} → S → S → Result (Unit {0}) WordFault → Result S WordFault → Type 0
 Turns d e (Ok x) made = made ≡ Ok e
 Turns d e (Err fault) made = (made ≡ Err fault) × (e ≡ d)
 
--- whether fields stand beside the bytes of mask and value
-abbrev pub mixes : ℕ → Bool
-mixes seen = not (bit_and seen 96 == 0) && not (seen / 2 ^ 8 == 0)
+-- a name may stand once, and its value must be there
+abbrev pub stored : {X : Type 0} → Option X → WordFault → Option X → Result (Option X) WordFault
+stored (Some y) fault said = Err Twice
+stored None fault None = Err fault
+stored None fault (Some x) = Ok (Some x)
+
+-- what is made with one part of a draft
+abbrev pub with_part : {X : Type 0} → (X → Draft) → Result X WordFault → Result Draft WordFault
+with_part f (Ok x) = Ok (f x)
+with_part f (Err e) = Err e
+
+-- the word table=
+abbrev pub table_word : Draft → List ℕ → Result Draft WordFault
+table_word d t = with_part (λ o. record d { table = o }) (stored d.table Table (of_bits 32 (number_of t)))
+
+-- the word id=
+abbrev pub id_word : Draft → List ℕ → Result Draft WordFault
+id_word d t = with_part (λ o. record d { id = o }) (stored d.id Id (of_bits 32 (number_of t)))
+
+-- the word priority=
+abbrev pub priority_word : Draft → List ℕ → Result Draft WordFault
+priority_word d t = with_part (λ o. record d { priority = o }) (stored d.priority Priority (of_bits 16 (number_of t)))
+
+-- the word next=
+abbrev pub next_word : Draft → List ℕ → Result Draft WordFault
+next_word d t = with_part (λ o. record d { next = o }) (stored d.next Next (of_bits 16 (number_of t)))
+
+-- the word ports=
+abbrev pub ports_word : Draft → List ℕ → Result Draft WordFault
+ports_word d t = with_part (λ o. record d { ports = o }) (stored d.ports Ports (ports_of t))
+
+-- the words mask= and value=
+abbrev pub mask_word : Draft → List ℕ → Result Draft WordFault
+mask_word d t = with_part (λ o. record d { mask = o }) (stored d.mask Bytes (row_of t))
+
+abbrev pub value_word : Draft → List ℕ → Result Draft WordFault
+value_word d t = with_part (λ o. record d { value = o }) (stored d.value Bytes (row_of t))
+
+-- the fault of a field's text as one of its word
+abbrev pub fault_of : FieldFault → WordFault
+fault_of NoField = Unknown
+fault_of NoValue = Value
+fault_of NoMask = Mask
+
+-- a field's mask and value in their rows, where it did not stand before; its bit is that of its first byte in the key
+abbrev pub field_by : Draft → Result Field FieldFault → Rows → Result Draft WordFault
+field_by d (Err e) rows = Err (fault_of e)
+field_by d (Ok f) rows =
+    cond (bit_and d.fields (2 ^ f.at) == 0) (Ok (record d { rows = rows; fields = bit_or d.fields (2 ^ f.at) })) (Err Twice)
+
+-- the word of a field
+abbrev pub field_word : Draft → List ℕ → List ℕ → Result Draft WordFault
+field_word d name t = field_by d (set_answer (field_named name) t) (rows_after (field_named name) t d.rows)
 
 -- a draft without a word
 abbrev pub blank_draft : Draft
 blank_draft =
     record {
-      rule = record { table = 0; id = 0; priority = 0; mask = replicate 36 0; value = replicate 36 0; ports = 0; next = 0 };
-      seen = 0;
+      table = None;
+      id = None;
+      priority = None;
+      next = None;
+      ports = None;
+      mask = None;
+      value = None;
+      rows = record { mask = replicate 36 0; value = replicate 36 0 };
+      fields = 0;
     }
-
--- what is missing of mask= and value=
-abbrev pub lacks_row : ℕ → Option (List ℕ)
-lacks_row rows = cond (rows == 32) (Some (codes "value=")) (cond (rows == 64) (Some (codes "mask=")) None)
-
--- what is missing, by the names that stood
-abbrev pub lacking : ℕ → Option (List ℕ)
-lacking seen =
-    cond (bit_and seen 1 == 0) (Some (codes "table="))
-    (cond (bit_and seen 2 == 0) (Some (codes "id=")) (lacks_row (bit_and seen 96)))
 
 -- a word of `remove` or `count`, which only name a rule
 abbrev pub name_word : Draft → Option (List ℕ × List ℕ) → Result Draft WordFault
@@ -135,3 +114,41 @@ word_by d n t =
 abbrev pub add_word : Draft → Option (List ℕ × List ℕ) → Result Draft WordFault
 add_word d None = Err Shape
 add_word d (Some p) = word_by d p.0 p.1
+
+-- the rule's name, or what is missing of it
+abbrev pub named_by : Option ℕ → Option ℕ → Result RuleName DraftFault
+named_by None id = Err LacksTable
+named_by (Some table) None = Err LacksId
+named_by (Some table) (Some id) = Ok (record { table = table; id = id })
+
+abbrev pub name_of : Draft → Result RuleName DraftFault
+name_of d = named_by d.table d.id
+
+-- the bytes of mask and value, which stand together and beside no field, or else what the fields write
+abbrev pub key_by : Option (List ℕ) → Option (List ℕ) → ℕ → Rows → Result Rows DraftFault
+key_by None None fields rows = Ok rows
+key_by (Some mask) None fields rows = Err LacksValue
+key_by None (Some value) fields rows = Err LacksMask
+key_by (Some mask) (Some value) fields rows = cond (fields == 0) (Ok (record { mask = mask; value = value })) (Err Mixed)
+
+abbrev pub key_of : Draft → Result Rows DraftFault
+key_of d = key_by d.mask d.value d.fields d.rows
+
+-- the rule that a draft says, or the first that is missing, or that does not go together; what is left out is 0
+abbrev pub ruled : Draft → Result RuleName DraftFault → Result Rows DraftFault → Result RuleRecord DraftFault
+ruled d (Err e) key = Err e
+ruled d (Ok name) (Err e) = Err e
+ruled d (Ok name) (Ok key) =
+    Ok
+    (record {
+      table = name.table;
+      id = name.id;
+      priority = unwrap_or d.priority 0;
+      mask = key.mask;
+      value = key.value;
+      ports = unwrap_or d.ports 0;
+      next = unwrap_or d.next 0;
+    })
+
+abbrev pub rule_of : Draft → Result RuleRecord DraftFault
+rule_of d = ruled d (name_of d) (key_of d)

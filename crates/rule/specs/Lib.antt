@@ -1,5 +1,7 @@
+pub mod DraftTexts
 pub mod Drafts
 pub mod Fields
+pub mod Forms
 pub mod Parts
 pub mod Ports
 pub mod Rows

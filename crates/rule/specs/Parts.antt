@@ -16,13 +16,3 @@ cut_at c (x ∷ xs) = cond (x == c) (Some ([], xs)) (longer x (cut_at c xs))
 abbrev pub bytes_of : Option (Bor (List ℕ) × Bor (List ℕ)) → Option (List ℕ × List ℕ)
 bytes_of None = None
 bytes_of (Some p) = Some (p.0.now, p.1.now)
-
--- one byte more in front of the first part
-abbrev pub onto_first : ℕ → List (List ℕ) → List (List ℕ)
-onto_first x [] = (x ∷ []) ∷ []
-onto_first x (p ∷ ps) = (x ∷ p) ∷ ps
-
--- the parts of a text, which stand between the bytes c
-unfoldable pub parts : ℕ → List ℕ → List (List ℕ)
-parts c [] = [] ∷ []
-parts c (x ∷ xs) = cond (x == c) ([] ∷ parts c xs) (onto_first x (parts c xs))

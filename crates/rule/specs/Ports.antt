@@ -1,8 +1,8 @@
 -- A list of ports as a set, bit p for port p.
-use Rattle.std.specs.Prelude.{ℕ, ◌^◌, cond, List, [], ◌∷◌, Some, None, codes, Option, bit_or, nat_lt}
+use Rattle.std.specs.Prelude.{ℕ, ◌^◌, cond, List, [], ◌∷◌, Some, None, codes, Option, bit_or, nat_lt, ◌==◌}
 use Rattle.std.specs.Str.{bytes_eq}
 use Rattle.numeral.specs.Numbers.{number_of}
-use Rattle.rule.specs.Parts.{parts}
+use Rattle.std.specs.List.{slice_split}
 
 -- the bit of a port from 0 to 63
 abbrev pub bit_of : Option ℕ → Option ℕ
@@ -22,4 +22,4 @@ and_all (Some set) (w ∷ ws) = and_all (joined set (bit_of (number_of w))) ws
 
 -- the ports of a list with commas between, or of `none`
 unfoldable pub ports_of : List ℕ → Option ℕ
-ports_of t = cond (bytes_eq t (codes "none")) (Some 0) (and_all (Some 0) (parts 44 t))
+ports_of t = cond (bytes_eq t (codes "none")) (Some 0) (and_all (Some 0) (slice_split (λ b. b == 44) t))

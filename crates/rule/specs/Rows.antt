@@ -1,8 +1,11 @@
 -- What a word FIELD=VALUE or FIELD=VALUE/MASK writes into the bytes of a mask and of a value.
 use Rattle.std.specs.Prelude.{ℕ, ◌+◌, ◌-◌, ◌/◌, ◌%◌, List, [], ◌∷◌, ◌++◌, length, take, drop, Some, None, Ok, Err, Option, Result}
 use Rattle.rule.specs.declared.field.Field.{Field}
-use Rattle.rule.specs.declared.field.FieldFault.{FieldFault}
-use Rattle.rule.specs.declared.field.FieldFault.TheVariants.{Unknown, Value, Mask}
+use Rattle.rule.specs.declared.field.Form.{Form}
+use Rattle.rule.specs.declared.rows.FieldFault.{FieldFault}
+use Rattle.rule.specs.declared.rows.FieldFault.TheVariants.{Unknown, Value, Mask}
+use Rattle.rule.specs.declared.rows.Rows.{Rows}
+use Rattle.rule.specs.Forms.{len_of, full_of}
 use Rattle.rule.specs.Parts.{cut_at}
 use Rattle.rule.specs.Values.{value_of, mask_of, up_to}
 
@@ -18,50 +21,43 @@ eight_bytes n =
 
 -- a row with a field's number, as the last of its eight bytes
 unfoldable pub with_number : Field → ℕ → List ℕ → List ℕ
-with_number f n row = placed f.at (drop (8 - f.len) (eight_bytes n)) row
+with_number f n row = placed f.at (drop (8 - len_of f.form) (eight_bytes n)) row
 
 -- the value stands before the slash, or is the whole text
-abbrev pub value_by : Field → List ℕ → Option (List ℕ × List ℕ) → Option ℕ
-value_by f t None = up_to f.full (value_of f.form t)
-value_by f t (Some p) = up_to f.full (value_of f.form p.0)
+abbrev pub value_by : Form → List ℕ → Option (List ℕ × List ℕ) → Option ℕ
+value_by form t None = up_to (full_of form) (value_of form t)
+value_by form t (Some p) = up_to (full_of form) (value_of form p.0)
 
 -- the mask stands behind it, or has all bits of the field
-abbrev pub mask_by : Field → Option (List ℕ × List ℕ) → Option ℕ
-mask_by f None = Some f.full
-mask_by f (Some p) = up_to f.full (mask_of f.form p.1)
+abbrev pub mask_by : Form → Option (List ℕ × List ℕ) → Option ℕ
+mask_by form None = Some (full_of form)
+mask_by form (Some p) = up_to (full_of form) (mask_of form p.1)
 
-unfoldable pub field_value : Field → List ℕ → Option ℕ
-field_value f t = value_by f t (cut_at 47 t)
+-- the value and the mask where both are there, or what is wrong
+abbrev pub judged : Option ℕ → Option ℕ → Result (ℕ × ℕ) FieldFault
+judged None m = Err Value
+judged (Some v) None = Err Mask
+judged (Some v) (Some m) = Ok (v, m)
 
-unfoldable pub field_mask : Field → List ℕ → Option ℕ
-field_mask f t = mask_by f (cut_at 47 t)
+-- what a text says of a field of a form
+unfoldable pub said : Form → List ℕ → Result (ℕ × ℕ) FieldFault
+said form t = judged (value_by form t (cut_at 47 t)) (mask_by form (cut_at 47 t))
 
--- the field's place where both are there, or what is wrong
-abbrev pub judged : Field → Option ℕ → Option ℕ → Result ℕ FieldFault
-judged f None m = Err Value
-judged f (Some v) None = Err Mask
-judged f (Some v) (Some m) = Ok f.at
+-- the field where its text is taken
+abbrev pub taken : Field → Result (ℕ × ℕ) FieldFault → Result Field FieldFault
+taken f (Err e) = Err e
+taken f (Ok p) = Ok f
 
--- the row with one of the two numbers where both are there
-abbrev pub mask_put : Field → Option ℕ → Option ℕ → List ℕ → List ℕ
-mask_put f None m row = row
-mask_put f (Some v) None row = row
-mask_put f (Some v) (Some m) row = with_number f m row
-
-abbrev pub value_put : Field → Option ℕ → Option ℕ → List ℕ → List ℕ
-value_put f None m row = row
-value_put f (Some v) None row = row
-value_put f (Some v) (Some m) row = with_number f v row
+-- the rows with the two numbers where both are there
+abbrev pub put : Field → Result (ℕ × ℕ) FieldFault → Rows → Rows
+put f (Err e) rows = rows
+put f (Ok p) rows = record { mask = with_number f p.1 rows.mask; value = with_number f p.0 rows.value }
 
 -- the same for the field of a name, if there is one
-abbrev pub set_answer : Option Field → List ℕ → Result ℕ FieldFault
+abbrev pub set_answer : Option Field → List ℕ → Result Field FieldFault
 set_answer None t = Err Unknown
-set_answer (Some f) t = judged f (field_value f t) (field_mask f t)
+set_answer (Some f) t = taken f (said f.form t)
 
-abbrev pub mask_after : Option Field → List ℕ → List ℕ → List ℕ
-mask_after None t row = row
-mask_after (Some f) t row = mask_put f (field_value f t) (field_mask f t) row
-
-abbrev pub value_after : Option Field → List ℕ → List ℕ → List ℕ
-value_after None t row = row
-value_after (Some f) t row = value_put f (field_value f t) (field_mask f t) row
+abbrev pub rows_after : Option Field → List ℕ → Rows → Rows
+rows_after None t rows = rows
+rows_after (Some f) t rows = put f (said f.form t) rows

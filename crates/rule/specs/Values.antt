@@ -3,7 +3,7 @@ use Rattle.std.specs.Prelude.{ℕ, ◌+◌, ◌-◌, ◌*◌, ◌/◌, ◌%◌, 
 use Rattle.numeral.specs.Hex.{nibble_of}
 use Rattle.numeral.specs.Numbers.{number_of, of_bits}
 use Rattle.rule.specs.declared.field.Form.{Form}
-use Rattle.rule.specs.declared.field.Form.TheVariants.{Number, Mac, Quad}
+use Rattle.rule.specs.declared.field.Form.TheVariants.{Byte, Word, Quad, Mac}
 use Rattle.rule.specs.Parts.{cut_at}
 
 -- a number of 64 bits with one byte more at its end
@@ -55,9 +55,10 @@ quad_of t =
 
 -- the value that a text writes in a form
 abbrev pub value_of : Form → List ℕ → Option ℕ
-value_of Number t = number_of t
-value_of Mac t = mac_of t
+value_of Byte t = number_of t
+value_of Word t = number_of t
 value_of Quad t = quad_of t
+value_of Mac t = mac_of t
 
 -- a mask of 32 bits whose first so many are set
 abbrev pub prefix_of : ℕ → Option ℕ
@@ -70,9 +71,10 @@ prefix_or_quad None t = quad_of t
 
 -- the mask that a text writes: for an address of IPv4 the length of a prefix too
 abbrev pub mask_of : Form → List ℕ → Option ℕ
-mask_of Number t = number_of t
-mask_of Mac t = mac_of t
+mask_of Byte t = number_of t
+mask_of Word t = number_of t
 mask_of Quad t = prefix_or_quad (number_of t) t
+mask_of Mac t = mac_of t
 
 -- a number where it is not above the largest
 abbrev pub up_to : ℕ → Option ℕ → Option ℕ

@@ -1,16 +1,15 @@
 // A rule as a script writes it: words NAME=VALUE.
-ghost use Rattle.std.specs.Prelude.{◌≡◌, ◌+◌, ◌^◌, ◌≤◌, if◌then◌else◌, Ok, Err, bit_and, nat_eq};
-ghost use Rattle.rule.specs.declared.draft.WordFault.TheVariants.{Twice};
-ghost use Rattle.rule.specs.Drafts.{table_word, id_word, priority_word, next_word, ports_word, mask_word, value_word, field_word, Turns, mixes, blank_draft, lacking, add_word, name_word};
-ghost use Rattle.std.specs.Option.{option_map};
+ghost use Rattle.std.specs.Prelude.{◌≡◌, Some};
+ghost use Rattle.rule.specs.Drafts.{fault_of, stored, Turns, blank_draft, table_word, id_word, field_word, add_word, name_word, name_of, key_of, rule_of};
+ghost use Rattle.rule.specs.DraftTexts.{word_text, draft_text};
 ghost use Rattle.rule.specs.Parts.{cut_at};
 
-use super::field::{FieldFault, set_field};
 use super::parts::cut;
 use super::ports::ports;
+use super::rows::{FieldFault, Rows, set_field};
 use super::value::row;
-use datapath::RuleRecord;
-use numeral::number::{number16, number32};
+use datapath::{RuleName, RuleRecord};
+use numeral::number::number;
 use std::fmt;
 
 // What is wrong with a word.
@@ -35,6 +34,8 @@ pub enum WordFault {
 }
 
 impl fmt::Display for WordFault {
+    ghost output = { λ fault. Some (word_text fault) };
+
     fn fmt<W: fmt::Write>(&self, f: &mut fmt::Formatter<W>) -> fmt::Result {
         match self {
             WordFault::Shape => write!(f, "no NAME=VALUE"),
@@ -52,36 +53,56 @@ impl fmt::Display for WordFault {
     }
 }
 
-// The names that stood, as bits: a field's is 8 and its first byte in the key.
-const TABLE: u64 = 1;
+impl From<FieldFault> for WordFault {
+    ghost from_gives = { λ e r. r ≡ fault_of e };
 
-const ID: u64 = 2;
-
-const PRIORITY: u64 = 4;
-
-const NEXT: u64 = 8;
-
-const PORTS: u64 = 16;
-
-const MASK: u64 = 32;
-
-const VALUE: u64 = 64;
-
-const FIELDS: u32 = 8;
-
-// A rule that is being read.
-#[derive(Clone, Copy)]
-pub struct Draft {
-    pub rule: RuleRecord,
-    seen: u64,
+    fn from(e: FieldFault) -> WordFault {
+        match e {
+            FieldFault::Unknown => WordFault::Unknown,
+            FieldFault::Value => WordFault::Value,
+            FieldFault::Mask => WordFault::Mask,
+        }
+    }
 }
 
-// The bit of the field whose first byte stands at a place.
-fn field_bit(at: usize) -> u64
-    requires { at ≤ 36 }
-    ensures { result ≡ 2 ^ (8 + at) }
-{
-    1u64 << (FIELDS + at as u32)
+// Why the words make no rule: what is missing, or that fields stand beside the bytes of mask and value.
+#[derive(Debug, Clone, Copy, PartialEq, Eq)]
+pub enum DraftFault {
+    Table,
+    Id,
+    Mask,
+    Value,
+    Mixed,
+}
+
+impl fmt::Display for DraftFault {
+    ghost output = { λ fault. Some (draft_text fault) };
+
+    fn fmt<W: fmt::Write>(&self, f: &mut fmt::Formatter<W>) -> fmt::Result {
+        match self {
+            DraftFault::Table => write!(f, "table= is missing"),
+            DraftFault::Id => write!(f, "id= is missing"),
+            DraftFault::Mask => write!(f, "mask= is missing"),
+            DraftFault::Value => write!(f, "value= is missing"),
+            DraftFault::Mixed => write!(f, "fields and mask= value= do not go together"),
+        }
+    }
+}
+
+// A rule that is being read.
+#[derive(Debug, Clone, Copy)]
+pub struct Draft {
+    table: Option<u32>,
+    id: Option<u32>,
+    priority: Option<u16>,
+    next: Option<u16>,
+    ports: Option<u64>,
+    mask: Option<[u8; 36]>,
+    value: Option<[u8; 36]>,
+    // what the fields that stood write
+    rows: Rows,
+    // the places of these fields, a set of numbers below 36 as bits
+    fields: u64,
 }
 
 // A draft without a word.
@@ -89,149 +110,72 @@ pub fn blank() -> Draft
     ensures { result ≡ blank_draft }
 {
     Draft {
-        rule: RuleRecord {
-            table: 0,
-            id: 0,
-            priority: 0,
+        table: None,
+        id: None,
+        priority: None,
+        next: None,
+        ports: None,
+        mask: None,
+        value: None,
+        rows: Rows {
             mask: [0; 36],
             value: [0; 36],
-            ports: 0,
-            next: 0,
         },
-        seen: 0,
+        fields: 0,
     }
 }
 
-impl Draft {
-    // Whether a name may stand.
-    fn free(&self, bit: u64) -> Result<(), WordFault>
-        ensures { result ≡ (if nat_eq (bit_and self.now.seen bit) 0 then Ok tt else Err Twice) }
-    {
-        if self.seen & bit != 0 {
-            return Err(WordFault::Twice);
-        }
-        Ok(())
+// Stores what a word says, where its name did not stand before.
+fn store<T: Drop>(slot: &mut Option<T>, said: Option<T>, fault: WordFault) -> Result<(), WordFault>
+    ensures { Turns slot.old slot.new result (stored slot.old fault said) }
+{
+    if slot.is_some() {
+        return Err(WordFault::Twice);
     }
+    *slot = Some(said.ok_or(fault)?);
+    Ok(())
+}
 
+impl Draft {
     fn table(&mut self, text: &str) -> Result<(), WordFault>
         ensures { Turns self.old self.new result (table_word self.old text.now) }
     {
-        self.free(TABLE)?;
-        let Some(table) = number32(text) else {
-            return Err(WordFault::Table);
-        };
-        self.rule.table = table;
-        self.seen |= TABLE;
-        Ok(())
+        store(&mut self.table, number(text), WordFault::Table)
     }
 
     fn id(&mut self, text: &str) -> Result<(), WordFault>
         ensures { Turns self.old self.new result (id_word self.old text.now) }
     {
-        self.free(ID)?;
-        let Some(id) = number32(text) else {
-            return Err(WordFault::Id);
-        };
-        self.rule.id = id;
-        self.seen |= ID;
-        Ok(())
-    }
-
-    fn priority(&mut self, text: &str) -> Result<(), WordFault>
-        ensures { Turns self.old self.new result (priority_word self.old text.now) }
-    {
-        self.free(PRIORITY)?;
-        let Some(priority) = number16(text) else {
-            return Err(WordFault::Priority);
-        };
-        self.rule.priority = priority;
-        self.seen |= PRIORITY;
-        Ok(())
-    }
-
-    fn next(&mut self, text: &str) -> Result<(), WordFault>
-        ensures { Turns self.old self.new result (next_word self.old text.now) }
-    {
-        self.free(NEXT)?;
-        let Some(next) = number16(text) else {
-            return Err(WordFault::Next);
-        };
-        self.rule.next = next;
-        self.seen |= NEXT;
-        Ok(())
-    }
-
-    fn ports(&mut self, text: &str) -> Result<(), WordFault>
-        ensures { Turns self.old self.new result (ports_word self.old text.now) }
-    {
-        self.free(PORTS)?;
-        let Some(ports) = ports(text) else {
-            return Err(WordFault::Ports);
-        };
-        self.rule.ports = ports;
-        self.seen |= PORTS;
-        Ok(())
-    }
-
-    fn mask(&mut self, text: &str) -> Result<(), WordFault>
-        ensures { Turns self.old self.new result (mask_word self.old text.now) }
-    {
-        self.free(MASK)?;
-        let Some(mask) = row(text.as_bytes()) else {
-            return Err(WordFault::Bytes);
-        };
-        self.rule.mask = mask;
-        self.seen |= MASK;
-        Ok(())
-    }
-
-    fn value(&mut self, text: &str) -> Result<(), WordFault>
-        ensures { Turns self.old self.new result (value_word self.old text.now) }
-    {
-        self.free(VALUE)?;
-        let Some(value) = row(text.as_bytes()) else {
-            return Err(WordFault::Bytes);
-        };
-        self.rule.value = value;
-        self.seen |= VALUE;
-        Ok(())
+        store(&mut self.id, number(text), WordFault::Id)
     }
 
     fn field(&mut self, name: &str, text: &str) -> Result<(), WordFault>
         ensures { Turns self.old self.new result (field_word self.old name.now text.now) }
     {
-        let mut mask = self.rule.mask;
-        let mut value = self.rule.value;
-        match set_field(&mut mask, &mut value, name, text) {
-            Ok(at) => {
-                let bit = field_bit(at);
-                self.free(bit)?;
-                self.rule.mask = mask;
-                self.rule.value = value;
-                self.seen |= bit;
-                Ok(())
-            }
-            Err(FieldFault::Unknown) => Err(WordFault::Unknown),
-            Err(FieldFault::Value) => Err(WordFault::Value),
-            Err(FieldFault::Mask) => Err(WordFault::Mask),
+        let mut rows = self.rows;
+        let field = set_field(&mut rows, name, text)?;
+        if self.fields & field.bit() != 0 {
+            return Err(WordFault::Twice);
         }
+        self.rows = rows;
+        self.fields |= field.bit();
+        Ok(())
     }
 
     // Takes a word of `add`.
+    #[tactic(auto, unfolding(crate::specs::Drafts::word_by))]
     pub fn take(&mut self, word: &str) -> Result<(), WordFault>
         ensures { Turns self.old self.new result (add_word self.old (cut_at 61 word.now)) }
     {
-        let Some((name, text)) = cut(word, '=') else {
-            return Err(WordFault::Shape);
-        };
+        let (name, text) = cut(word, '=').ok_or(WordFault::Shape)?;
         match name {
             "table" => self.table(text),
             "id" => self.id(text),
-            "priority" => self.priority(text),
-            "next" => self.next(text),
-            "ports" => self.ports(text),
-            "mask" => self.mask(text),
-            "value" => self.value(text),
+            "priority" => store(&mut self.priority, number(text), WordFault::Priority),
+            "next" => store(&mut self.next, number(text), WordFault::Next),
+            "ports" => store(&mut self.ports, ports(text), WordFault::Ports),
+            "mask" => store(&mut self.mask, row(text.as_bytes()), WordFault::Bytes),
+            "value" => store(&mut self.value, row(text.as_bytes()), WordFault::Bytes),
             _ => self.field(name, text),
         }
     }
@@ -240,9 +184,7 @@ impl Draft {
     pub fn take_name(&mut self, word: &str) -> Result<(), WordFault>
         ensures { Turns self.old self.new result (name_word self.old (cut_at 61 word.now)) }
     {
-        let Some((name, text)) = cut(word, '=') else {
-            return Err(WordFault::Shape);
-        };
+        let (name, text) = cut(word, '=').ok_or(WordFault::Shape)?;
         match name {
             "table" => self.table(text),
             "id" => self.id(text),
@@ -250,30 +192,42 @@ impl Draft {
         }
     }
 
-    // What is missing, or does not go together.
-    pub fn lacks(&self) -> Option<&'static str>
-        ensures { option_map (λ x. x.now) result ≡ lacking self.now.seen }
+    // The rule's name.
+    pub fn name(&self) -> Result<RuleName, DraftFault>
+        ensures { result ≡ name_of self.now }
     {
-        if self.seen & TABLE == 0 {
-            return Some("table=");
-        }
-        if self.seen & ID == 0 {
-            return Some("id=");
-        }
-        let rows = self.seen & (MASK | VALUE);
-        if rows == MASK {
-            return Some("value=");
-        }
-        if rows == VALUE {
-            return Some("mask=");
-        }
-        None
+        let table = self.table.ok_or(DraftFault::Table)?;
+        let id = self.id.ok_or(DraftFault::Id)?;
+        Ok(RuleName { table, id })
     }
 
-    // Whether fields stand beside the bytes of mask and value.
-    pub fn mixed(&self) -> bool
-        ensures { result ≡ mixes self.now.seen }
+    // The bytes of its mask and value, from the words for these or from the fields.
+    fn key(&self) -> Result<Rows, DraftFault>
+        ensures { result ≡ key_of self.now }
     {
-        self.seen & (MASK | VALUE) != 0 && self.seen >> FIELDS != 0
+        match (self.mask, self.value) {
+            (None, None) => Ok(self.rows),
+            (Some(_), None) => Err(DraftFault::Value),
+            (None, Some(_)) => Err(DraftFault::Mask),
+            (Some(_), Some(_)) if self.fields != 0 => Err(DraftFault::Mixed),
+            (Some(mask), Some(value)) => Ok(Rows { mask, value }),
+        }
+    }
+
+    // The rule that the words say; what they leave out is 0.
+    pub fn finish(&self) -> Result<RuleRecord, DraftFault>
+        ensures { result ≡ rule_of self.now }
+    {
+        let RuleName { table, id } = self.name()?;
+        let Rows { mask, value } = self.key()?;
+        Ok(RuleRecord {
+            table,
+            id,
+            priority: self.priority.unwrap_or(0),
+            mask,
+            value,
+            ports: self.ports.unwrap_or(0),
+            next: self.next.unwrap_or(0),
+        })
     }
 }

@@ -5,4 +5,5 @@ pub mod draft;
 pub mod field;
 mod parts;
 pub mod ports;
+pub mod rows;
 mod value;

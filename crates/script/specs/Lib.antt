@@ -1,2 +1,3 @@
 pub mod Piles
 pub mod Statements
+pub mod Texts

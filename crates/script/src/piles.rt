@@ -2,30 +2,26 @@
 ghost use Rattle.std.specs.Prelude.{◌≡◌};
 ghost use Rattle.script.specs.Piles.{piles_of, set_up};
 
-use super::statement::{ClassifierName, Numbered, Pile, Side, Statement};
-
-#[derive(Clone, Copy)]
-pub struct Piles {
-    pub a: Pile,
-    pub b: Pile,
-}
+use super::statement::{Numbered, Pile, Side, Statement};
+use pile::ClassifierKind;
+use sides::Sides;
 
 // One of the two is made as a statement says.
-fn set_up(piles: Piles, statement: &Statement) -> Piles
+fn set_up(piles: Sides<Pile>, statement: &Statement) -> Sides<Pile>
     ensures { result ≡ set_up piles statement.now }
 {
     match statement {
         Statement::Switch {
             side: Side::A,
             pile,
-        } => Piles {
+        } => Sides {
             a: *pile,
             b: piles.b,
         },
         Statement::Switch {
             side: Side::B,
             pile,
-        } => Piles {
+        } => Sides {
             a: piles.a,
             b: *pile,
         },
@@ -34,18 +30,15 @@ fn set_up(piles: Piles, statement: &Statement) -> Piles
 }
 
 // Linear classifiers where nothing is said; where it is said twice of a switch, the last holds.
-pub fn piles_of(script: &[Numbered]) -> Piles
+pub fn piles_of(script: &[Numbered]) -> Sides<Pile>
     ensures { result ≡ piles_of script.now }
 {
     let linear = Pile {
-        classifier: ClassifierName::Linear,
+        classifier: ClassifierKind::Linear,
     };
-    let mut piles = Piles {
+    let unsaid = Sides {
         a: linear,
         b: linear,
     };
-    for numbered in script {
-        piles = set_up(piles, &numbered.statement);
-    }
-    piles
+    script.iter().fold(unsaid, |piles, numbered| set_up(piles, &numbered.statement))
 }

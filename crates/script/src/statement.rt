@@ -1,52 +1,66 @@
 // The statements of a script, one to a line.
-ghost use Rattle.std.specs.Prelude.{vec_items, string_bytes};
+ghost use Rattle.std.specs.Prelude.{◌≡◌, Some, vec_items, string_bytes};
+ghost use Rattle.script.specs.declared.statement.LineFault.TheVariants.{Memory, Draft};
 ghost use Rattle.script.specs.Statements.{SaysPort, SaysFrame, SaysPath};
+ghost use Rattle.script.specs.Texts.{line_text, script_text};
 
-use datapath::RuleRecord;
+use datapath::{RuleName, RuleRecord};
 use numeral::hex::{HexFault, hex_bytes};
-use numeral::number::number16;
-use rule::draft::{Draft, WordFault, blank};
+use numeral::number::number;
+use pile::ClassifierKind;
+use rule::draft::{Draft as RuleDraft, DraftFault, WordFault, blank};
 use std::alloc::{AllocError, Global};
 use std::fmt;
 use std::str::SplitWhitespace;
 
+// A frame that comes in at a port.
+#[derive(Drop)]
+pub struct Sent {
+    pub port: u16,
+    pub frame: Vec<u8>,
+}
+
+// The frames of the capture at a path, at a port.
+#[derive(Drop)]
+pub struct Recorded {
+    pub port: u16,
+    pub path: String,
+}
+
 #[derive(Drop)]
 pub enum Statement {
-    // print the key of a frame that came in at a port
-    Key { port: u16, frame: Vec<u8> },
-    // the same for each frame of the capture at a path
-    Keys { port: u16, path: String },
+    // print the key of a frame, or of each frame of a capture
+    Key(Sent),
+    Keys(Recorded),
     // what one of the two switches is made of
     Switch { side: Side, pile: Pile },
-    // the calls that both switches get
+    Call(Call),
+}
+
+// What both switches are called for.
+#[derive(Drop)]
+pub enum Call {
     Add(RuleRecord),
-    Remove { table: u32, id: u32 },
-    Count { table: u32, id: u32 },
-    Frame { port: u16, frame: Vec<u8> },
-    Frames { port: u16, path: String },
-    Peek { port: u16, frame: Vec<u8> },
+    Remove(RuleName),
+    Count(RuleName),
+    Frame(Sent),
+    Frames(Recorded),
+    Peek(Sent),
     Totals,
     // the count of each standing rule
     Report,
 }
 
-#[derive(Clone, Copy)]
+#[derive(Debug, Clone, Copy, PartialEq, Eq)]
 pub enum Side {
     A,
     B,
 }
 
-// How a table finds its rule for a key.
-#[derive(Clone, Copy)]
-pub enum ClassifierName {
-    Linear,
-    Tuple,
-}
-
-// What a switch is made of.
+// What a switch is made of: how a table finds its rule for a key.
 #[derive(Clone, Copy)]
 pub struct Pile {
-    pub classifier: ClassifierName,
+    pub classifier: ClassifierKind,
 }
 
 // A statement with its line's number, counted from 1.
@@ -71,8 +85,8 @@ pub enum LineFault {
     Hex(HexFault),
     // a word NAME=VALUE
     Word(String, WordFault),
-    // fields beside the bytes of mask and value
-    Mixed,
+    // the words make no rule
+    Draft(DraftFault),
     // a word that names none of the two switches, or nothing that a switch is made of
     Side(String),
     Pile(String),
@@ -80,16 +94,9 @@ pub enum LineFault {
     Late,
 }
 
-// What is wrong with the digits of a frame.
-fn write_hex<W: fmt::Write>(fault: HexFault, f: &mut fmt::Formatter<W>) -> fmt::Result {
-    match fault {
-        HexFault::Memory => write!(f, "no memory"),
-        HexFault::Odd(n) => write!(f, "the frame has an odd number of hexadecimal digits, {n}"),
-        HexFault::Digit(at) => write!(f, "no hexadecimal digit in the frame, behind {at} digits"),
-    }
-}
-
 impl fmt::Display for LineFault {
+    ghost output = { λ fault. Some (line_text fault) };
+
     fn fmt<W: fmt::Write>(&self, f: &mut fmt::Formatter<W>) -> fmt::Result {
         match self {
             LineFault::Memory => write!(f, "no memory"),
@@ -100,9 +107,9 @@ impl fmt::Display for LineFault {
                 f,
                 "'{word}' is no port: a decimal or 0x number of 16 bits"
             ),
-            LineFault::Hex(fault) => write_hex(*fault, f),
+            LineFault::Hex(fault) => write!(f, "{fault}"),
             LineFault::Word(word, fault) => write!(f, "'{word}': {fault}"),
-            LineFault::Mixed => write!(f, "fields and mask= value= do not go together"),
+            LineFault::Draft(fault) => write!(f, "{fault}"),
             LineFault::Side(word) => write!(f, "'{word}' is no switch: A or B"),
             LineFault::Pile(word) => write!(
                 f,
@@ -114,8 +121,18 @@ impl fmt::Display for LineFault {
 }
 
 impl From<AllocError> for LineFault {
+    ghost from_gives = { λ _ r. r ≡ Memory };
+
     fn from(_e: AllocError) -> LineFault {
         LineFault::Memory
+    }
+}
+
+impl From<DraftFault> for LineFault {
+    ghost from_gives = { λ e r. r ≡ Draft e };
+
+    fn from(e: DraftFault) -> LineFault {
+        LineFault::Draft(e)
     }
 }
 
@@ -127,6 +144,8 @@ pub struct ScriptFault {
 }
 
 impl fmt::Display for ScriptFault {
+    ghost output = { λ fault. Some (script_text fault) };
+
     fn fmt<W: fmt::Write>(&self, f: &mut fmt::Formatter<W>) -> fmt::Result {
         let line = self.line;
         let fault = &self.fault;
@@ -138,12 +157,9 @@ impl fmt::Display for ScriptFault {
 fn port(heap: Global, word: &str) -> Result<u16, LineFault>
     ensures { SaysPort word.now result }
 {
-    match number16(word) {
+    match number(word) {
         Some(port) => Ok(port),
-        None => match String::from_str(heap, word) {
-            Ok(word) => Err(LineFault::Port(word)),
-            Err(_) => Err(LineFault::Memory),
-        },
+        None => Err(LineFault::Port(String::from_str(heap, word)?)),
     }
 }
 
@@ -151,258 +167,156 @@ fn port(heap: Global, word: &str) -> Result<u16, LineFault>
 fn frame(heap: Global, digits: &[u8]) -> Result<Vec<u8>, LineFault>
     ensures { SaysFrame vec_items digits.now result }
 {
-    match hex_bytes(heap, digits) {
-        Ok(frame) => Ok(frame),
-        Err(fault) => Err(LineFault::Hex(fault)),
-    }
+    hex_bytes(heap, digits).map_err(LineFault::Hex)
 }
 
 // The path that a word is.
 fn path(heap: Global, word: &str) -> Result<String, LineFault>
     ensures { SaysPath string_bytes word.now result }
 {
-    match String::from_str(heap, word) {
-        Ok(path) => Ok(path),
-        Err(_) => Err(LineFault::Memory),
-    }
+    Ok(String::from_str(heap, word)?)
 }
 
-fn parse_port(heap: Global, words: &mut SplitWhitespace<'_>) -> Result<u16, LineFault> {
-    match words.next() {
-        Some(word) => port(heap, word),
-        None => Err(LineFault::Missing("the port")),
-    }
-}
-
-// The frame may be absent, which is an empty one.
-fn parse_frame(heap: Global, words: &mut SplitWhitespace<'_>) -> Result<Vec<u8>, LineFault> {
-    match words.next() {
-        Some(word) => frame(heap, word.as_bytes()),
-        None => frame(heap, &[]),
-    }
-}
-
-fn parse_path(heap: Global, words: &mut SplitWhitespace<'_>) -> Result<String, LineFault> {
-    match words.next() {
-        Some(word) => path(heap, word),
-        None => Err(LineFault::Missing("the capture's path")),
-    }
-}
-
-fn parse_side(heap: Global, words: &mut SplitWhitespace<'_>) -> Result<Side, LineFault> {
-    match words.next() {
-        Some("A") => Ok(Side::A),
-        Some("B") => Ok(Side::B),
-        Some(word) => Err(LineFault::Side(String::from_str(heap, word)?)),
-        None => Err(LineFault::Missing("the switch, A or B,")),
-    }
-}
-
-fn parse_pile(heap: Global, words: &mut SplitWhitespace<'_>) -> Result<Pile, LineFault> {
-    match words.next() {
-        Some("linear") => Ok(Pile {
-            classifier: ClassifierName::Linear,
-        }),
-        Some("tuple") => Ok(Pile {
-            classifier: ClassifierName::Tuple,
-        }),
-        Some(word) => Err(LineFault::Pile(String::from_str(heap, word)?)),
-        None => Err(LineFault::Missing("what the switch is made of")),
-    }
-}
-
-fn word_fault(heap: Global, word: &str, fault: WordFault) -> LineFault {
-    match String::from_str(heap, word) {
-        Ok(word) => LineFault::Word(word, fault),
-        Err(_) => LineFault::Memory,
-    }
-}
-
-// The rule that the words behind `add` write.
-fn parse_rule(heap: Global, code: &str) -> Result<RuleRecord, LineFault> {
-    let mut draft = blank();
-    for word in code.split_whitespace().skip(1) {
-        if let Err(fault) = draft.take(word) {
-            return Err(word_fault(heap, word, fault));
-        }
-    }
-    if let Some(what) = draft.lacks() {
-        return Err(LineFault::Missing(what));
-    }
-    if draft.mixed() {
-        return Err(LineFault::Mixed);
-    }
-    Ok(draft.rule)
-}
-
-// The table and the id that the words behind `remove` or `count` write.
-fn parse_name(heap: Global, code: &str) -> Result<(u32, u32), LineFault> {
-    let mut draft = blank();
-    for word in code.split_whitespace().skip(1) {
-        if let Err(fault) = draft.take_name(word) {
-            return Err(word_fault(heap, word, fault));
-        }
-    }
-    if let Some(what) = draft.lacks() {
-        return Err(LineFault::Missing(what));
-    }
-    Ok((draft.rule.table, draft.rule.id))
-}
-
-// A statement whose words are NAME=VALUE, or none where the verb is another.
-fn parse_named(heap: Global, verb: &str, code: &str) -> Result<Option<Statement>, LineFault> {
-    match verb {
-        "add" => Ok(Some(Statement::Add(parse_rule(heap, code)?))),
-        "remove" => {
-            let (table, id) = parse_name(heap, code)?;
-            Ok(Some(Statement::Remove { table, id }))
-        }
-        "count" => {
-            let (table, id) = parse_name(heap, code)?;
-            Ok(Some(Statement::Count { table, id }))
-        }
-        _ => Ok(None),
-    }
-}
-
-// A port and a frame.
-fn parse_sent(heap: Global, words: &mut SplitWhitespace<'_>) -> Result<(u16, Vec<u8>), LineFault> {
-    let port = parse_port(heap, words)?;
-    let frame = parse_frame(heap, words)?;
-    Ok((port, frame))
-}
-
-// A port and the path of a capture.
-fn parse_recorded(
+// The words of a line that are to be read, and the memory for what they say.
+#[derive(Drop)]
+struct Words<'a> {
     heap: Global,
-    words: &mut SplitWhitespace<'_>,
-) -> Result<(u16, String), LineFault> {
-    let port = parse_port(heap, words)?;
-    let path = parse_path(heap, words)?;
-    Ok((port, path))
+    left: SplitWhitespace<'a>,
 }
 
-// A statement of a port and a frame, or none where the verb is another.
-fn parse_framed(
-    heap: Global,
-    verb: &str,
-    words: &mut SplitWhitespace<'_>,
-) -> Result<Option<Statement>, LineFault> {
-    match verb {
-        "key" => {
-            let (port, frame) = parse_sent(heap, words)?;
-            Ok(Some(Statement::Key { port, frame }))
-        }
-        "frame" => {
-            let (port, frame) = parse_sent(heap, words)?;
-            Ok(Some(Statement::Frame { port, frame }))
-        }
-        "peek" => {
-            let (port, frame) = parse_sent(heap, words)?;
-            Ok(Some(Statement::Peek { port, frame }))
-        }
-        _ => Ok(None),
+impl<'a> Words<'a> {
+    // The next word, which is missing where there is none.
+    fn next(&mut self, what: &'static str) -> Result<&'a str, LineFault> {
+        self.left.next().ok_or(LineFault::Missing(what))
     }
-}
 
-// The other statements.
-fn parse_plain(
-    heap: Global,
-    verb: &str,
-    words: &mut SplitWhitespace<'_>,
-) -> Result<Statement, LineFault> {
-    match verb {
-        "switch" => {
-            let side = parse_side(heap, words)?;
-            let pile = parse_pile(heap, words)?;
-            Ok(Statement::Switch { side, pile })
-        }
-        "keys" => {
-            let (port, path) = parse_recorded(heap, words)?;
-            Ok(Statement::Keys { port, path })
-        }
-        "frames" => {
-            let (port, path) = parse_recorded(heap, words)?;
-            Ok(Statement::Frames { port, path })
-        }
-        "totals" => Ok(Statement::Totals),
-        "report" => Ok(Statement::Report),
-        _ => Err(LineFault::Unknown(String::from_str(heap, verb)?)),
+    fn port(&mut self) -> Result<u16, LineFault> {
+        let word = self.next("the port")?;
+        port(self.heap, word)
     }
-}
 
-// A statement that has no word behind its last.
-fn parse_words(
-    heap: Global,
-    verb: &str,
-    words: &mut SplitWhitespace<'_>,
-) -> Result<Statement, LineFault> {
-    let statement = match parse_framed(heap, verb, words)? {
-        Some(statement) => statement,
-        None => parse_plain(heap, verb, words)?,
-    };
-    match words.next() {
-        Some(word) => Err(LineFault::Extra(String::from_str(heap, word)?)),
-        None => Ok(statement),
+    // A port and a frame, which may be absent and is an empty one then.
+    fn sent(&mut self) -> Result<Sent, LineFault> {
+        let port = self.port()?;
+        let digits = self.left.next().unwrap_or("");
+        let frame = frame(self.heap, digits.as_bytes())?;
+        Ok(Sent { port, frame })
+    }
+
+    // A port and the path of a capture.
+    fn recorded(&mut self) -> Result<Recorded, LineFault> {
+        let port = self.port()?;
+        let word = self.next("the capture's path")?;
+        let path = path(self.heap, word)?;
+        Ok(Recorded { port, path })
+    }
+
+    fn side(&mut self) -> Result<Side, LineFault> {
+        let word = self.next("the switch, A or B,")?;
+        match word {
+            "A" => Ok(Side::A),
+            "B" => Ok(Side::B),
+            _ => Err(LineFault::Side(String::from_str(self.heap, word)?)),
+        }
+    }
+
+    fn pile(&mut self) -> Result<Pile, LineFault> {
+        let word = self.next("what the switch is made of")?;
+        let classifier = match word {
+            "linear" => ClassifierKind::Linear,
+            "tuple" => ClassifierKind::Tuple,
+            _ => return Err(LineFault::Pile(String::from_str(self.heap, word)?)),
+        };
+        Ok(Pile { classifier })
+    }
+
+    // The draft of a rule that the words NAME=VALUE write, each of which is taken so.
+    fn draft<F: Fn(&mut RuleDraft, &str) -> Result<(), WordFault>>(
+        &mut self,
+        take: F,
+    ) -> Result<RuleDraft, LineFault>
+        requires { F.IsAlwaysCallable take }
+    {
+        let mut draft = blank();
+        for word in self.left.by_ref() {
+            if let Err(fault) = take(&mut draft, word) {
+                return Err(LineFault::Word(String::from_str(self.heap, word)?, fault));
+            }
+        }
+        Ok(draft)
+    }
+
+    fn rule(&mut self) -> Result<RuleRecord, LineFault> {
+        let draft = self.draft(|draft, word| draft.take(word))?;
+        Ok(draft.finish()?)
+    }
+
+    fn name(&mut self) -> Result<RuleName, LineFault> {
+        let draft = self.draft(|draft, word| draft.take_name(word))?;
+        Ok(draft.name()?)
+    }
+
+    // The statement of a verb.
+    fn statement(&mut self, verb: &str) -> Result<Statement, LineFault> {
+        Ok(match verb {
+            "key" => Statement::Key(self.sent()?),
+            "keys" => Statement::Keys(self.recorded()?),
+            "switch" => Statement::Switch {
+                side: self.side()?,
+                pile: self.pile()?,
+            },
+            "add" => Statement::Call(Call::Add(self.rule()?)),
+            "remove" => Statement::Call(Call::Remove(self.name()?)),
+            "count" => Statement::Call(Call::Count(self.name()?)),
+            "frame" => Statement::Call(Call::Frame(self.sent()?)),
+            "frames" => Statement::Call(Call::Frames(self.recorded()?)),
+            "peek" => Statement::Call(Call::Peek(self.sent()?)),
+            "totals" => Statement::Call(Call::Totals),
+            "report" => Statement::Call(Call::Report),
+            _ => return Err(LineFault::Unknown(String::from_str(self.heap, verb)?)),
+        })
     }
 }
 
 // The statement of a line, or none where the line has only blanks and a comment.
 pub fn parse_line(heap: Global, line: &str) -> Result<Option<Statement>, LineFault> {
-    let code = match line.split_once('#') {
-        Some((code, _)) => code,
-        None => line,
+    let code = line.split_once('#').map_or(line, |(code, _)| code);
+    let mut words = Words {
+        heap,
+        left: code.split_whitespace(),
     };
-    let mut words = code.split_whitespace();
-    let Some(verb) = words.next() else {
+    let Some(verb) = words.left.next() else {
         return Ok(None);
     };
-    if let Some(statement) = parse_named(heap, verb, code)? {
-        return Ok(Some(statement));
-    }
-    Ok(Some(parse_words(heap, verb, &mut words)?))
-}
-
-// Whether the switches get a call.
-fn calls(statement: &Statement) -> bool {
-    match statement {
-        Statement::Key { .. } => false,
-        Statement::Keys { .. } => false,
-        Statement::Switch { .. } => false,
-        _ => true,
+    let statement = words.statement(verb)?;
+    match words.left.next() {
+        Some(word) => Err(LineFault::Extra(String::from_str(heap, word)?)),
+        None => Ok(Some(statement)),
     }
 }
 
-fn sets_up(statement: &Statement) -> bool {
-    matches!(statement, Statement::Switch { .. })
+// The same in a script in whose earlier lines the switches are called, or not yet.
+fn parse_behind(heap: Global, line: &str, called: bool) -> Result<Option<Statement>, LineFault> {
+    let statement = parse_line(heap, line)?;
+    if called && matches!(&statement, Some(Statement::Switch { .. })) {
+        return Err(LineFault::Late);
+    }
+    Ok(statement)
 }
 
 // The statements of a script, or the first fault in it.
 pub fn parse(heap: Global, text: &str) -> Result<Vec<Numbered>, ScriptFault> {
     let mut script = Vec::new(heap);
-    let mut line = 0u64;
     let mut called = false;
-    for code in text.lines() {
-        line = line.saturating_add(1);
-        match parse_line(heap, code) {
-            Ok(Some(statement)) => {
-                if called && sets_up(&statement) {
-                    return Err(ScriptFault {
-                        line,
-                        fault: LineFault::Late,
-                    });
-                }
-                called = called || calls(&statement);
-                if script.push(Numbered { line, statement }).is_err() {
-                    return Err(ScriptFault {
-                        line,
-                        fault: LineFault::Memory,
-                    });
-                }
-            }
-            Ok(None) => {}
-            Err(fault) => return Err(ScriptFault { line, fault }),
-        }
+    for (line, code) in (1..u64::MAX).zip(text.lines()) {
+        let fault_at = |fault| ScriptFault { line, fault };
+        let Some(statement) = parse_behind(heap, code, called).map_err(fault_at)? else {
+            continue;
+        };
+        called = called || matches!(&statement, Statement::Call(_));
+        script
+            .push(Numbered { line, statement })
+            .map_err(|_| fault_at(LineFault::Memory))?;
     }
     Ok(script)
 }

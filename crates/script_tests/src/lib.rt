@@ -103,15 +103,18 @@ mod tests {
             Ok(capture) => capture,
             Err(fault) => return Ok(format!(in rt.alloc(); "{fault}")?),
         };
+        let mut records = 0;
+        let mut len = 0;
         for _ in 0..10 {
-            match capture.advance(&mut input) {
-                Ok(true) => {}
-                Ok(false) => break,
+            match capture.next_record(&mut input) {
+                Ok(Some(record)) => {
+                    records = record.number;
+                    len = record.frame.len();
+                }
+                Ok(None) => break,
                 Err(fault) => return Ok(format!(in rt.alloc(); "{fault}")?),
             }
         }
-        let records = capture.record();
-        let len = capture.frame().len();
         Ok(format!(in rt.alloc(); "{records} records, the last of {len} bytes")?)
     }
 

@@ -40,6 +40,7 @@ impl KeyHash for ByteSum {
 
     fn bucket(&self, mask: &[u8; 36], key: &[u8; 36]) -> usize {
         let mut sum: u16 = 0;
+        // by places: over `mask.iter().zip(key).zip(&WEIGHTS)` it takes 27 ns and not 7
         for i in 0..36 {
             sum = sum.wrapping_add(weighed(mask[i], key[i], WEIGHTS[i]));
         }

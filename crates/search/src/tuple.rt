@@ -1,5 +1,6 @@
 // The search in a tuple.
-ghost use Rattle.std.specs.Prelude.{◌≡◌, ◌-◌, ◌<◌, ◌&&◌, length, bit_and, bit_or, bit_xor};
+ghost use Rattle.std.specs.Prelude.{◌≡◌, ◌-◌, ◌<◌, ◌&&◌, length, bit_and, bit_or, bit_xor, zip};
+ghost use Rattle.std.specs.List.{fold};
 ghost use Rattle.std.specs.Option.{option_map};
 ghost use Rattle.std.specs.Str.{bytes_eq};
 ghost use Rattle.flow.specs.Masks.{covered};
@@ -13,9 +14,11 @@ use crate::index::Index;
 
 // An owner's slots with their index.
 #[derive(Drop)]
-pub struct Tuple<'a, E, H> {
+pub struct Tuple<'a, E: Element, H: KeyHash> {
     pub slots: &'a [E],
     pub index: &'a Index<H>,
+    // the index is that of the slots
+    ghost indexed: { Indexed E.Element.may (home H.KeyHash.hash E.Element.masks E.Element.values) slots.now index.now.buckets },
 }
 
 // A slot that was found.
@@ -32,16 +35,27 @@ fn apart(own: u8, value: u8, mask: u8, key: u8) -> u8
     (own ^ mask) | ((mask & key) ^ value)
 }
 
+// The bits in which a row's mask differs from the mask, and its value from the key's bits under the mask, gathered
+// from all bytes.
+#[inline(always)]
+fn differing(own: &[u8; 36], value: &[u8; 36], mask: &[u8; 36], key: &[u8; 36]) -> u8
+    ensures { result ≡ fold (λ d p. bit_or d (bit_or (bit_xor p.0.0.0 p.0.1) (bit_xor (bit_and p.0.1 p.1) p.0.0.1))) 0 (zip (zip (zip own.now value.now) mask.now) key.now) }
+{
+    // with no exit on the way the compiler takes many bytes at once
+    own.iter()
+        .zip(value)
+        .zip(mask)
+        .zip(key)
+        .fold(0, |differ, (((own, value), mask), key)| {
+            differ | apart(*own, *value, *mask, *key)
+        })
+}
+
 // Whether a row has the mask, and its value covers the key.
 fn row_fits(own: &[u8; 36], value: &[u8; 36], mask: &[u8; 36], key: &[u8; 36]) -> bool
     ensures { result ≡ (bytes_eq own.now mask.now && covered mask.now value.now key.now) }
 {
-    // with no exit on the way the compiler takes many bytes at once
-    let mut differ = 0;
-    for i in 0..36 {
-        differ |= apart(own[i], value[i], mask[i], key[i]);
-    }
-    differ == 0
+    differing(own, value, mask, key) == 0
 }
 
 // Whether the element has the mask and covers the key.
@@ -101,7 +115,6 @@ fn best_of<'b, E: Element>(
 impl<'a, E: Element, H: KeyHash> Tuple<'a, E, H> {
     // The slot of highest rank that fits.
     fn hit(&self, mask: &[u8; 36], key: &[u8; 36]) -> Option<Hit<'a, E>>
-        requires { Indexed E.Element.may (home H.KeyHash.hash E.Element.masks E.Element.values) self.now.slots.now self.now.index.now.buckets }
         ensures place { option_map seen result ≡ best (λ x. E.Element.level x.1) (λ x. fitting E.Element.may E.Element.masks E.Element.values mask.now key.now x.1) (numbered 0 self.now.slots.now) }
         ensures element { option_map (λ h. h.element.now) result ≡ best E.Element.level (fitting E.Element.may E.Element.masks E.Element.values mask.now key.now) self.now.slots.now }
     {
@@ -111,9 +124,9 @@ impl<'a, E: Element, H: KeyHash> Tuple<'a, E, H> {
     // The answer of the element of highest rank that may answer, has the mask and covers the key; of several of the
     // same rank, of the last.
     pub fn find(&self, mask: &[u8; 36], key: &[u8; 36]) -> Option<E::Answer>
-        requires { Indexed E.Element.may (home H.KeyHash.hash E.Element.masks E.Element.values) self.now.slots.now self.now.index.now.buckets }
         ensures { result ≡ option_map E.Element.says (best E.Element.level (fitting E.Element.may E.Element.masks E.Element.values mask.now key.now) self.now.slots.now) }
     {
+        // by a match: with `map` a find over 16 tuples takes 224 ns and not 179
         match self.hit(mask, key) {
             Some(hit) => Some(hit.element.answer()),
             None => None,
@@ -122,12 +135,8 @@ impl<'a, E: Element, H: KeyHash> Tuple<'a, E, H> {
 
     // The place of that element.
     pub fn find_place(&self, mask: &[u8; 36], key: &[u8; 36]) -> Option<usize>
-        requires { Indexed E.Element.may (home H.KeyHash.hash E.Element.masks E.Element.values) self.now.slots.now self.now.index.now.buckets }
         ensures { result ≡ best_place E.Element.level (fitting E.Element.may E.Element.masks E.Element.values mask.now key.now) self.now.slots.now }
     {
-        match self.hit(mask, key) {
-            Some(hit) => Some(hit.place),
-            None => None,
-        }
+        self.hit(mask, key).map(|hit| hit.place)
     }
 }

@@ -5,6 +5,7 @@ ghost use Rattle.switch.specs.declared.fault.SwitchFault.TheVariants.{Frame, Tab
 
 use datapath::TablesFault;
 use packet::FrameFault;
+use refusal::Refusal;
 
 #[derive(Debug, Clone, Copy, PartialEq, Eq)]
 pub enum SwitchFault {
@@ -30,24 +31,14 @@ impl From<TablesFault> for SwitchFault {
     }
 }
 
-impl SwitchFault {
-    // The refusal's number.
-    pub fn number(&self) -> u8
-        ensures { result ≡ (refusal_of self.now).0 }
-    {
-        match self {
-            SwitchFault::Frame(fault) => fault.number(),
-            SwitchFault::Tables(fault) => fault.number(),
-        }
-    }
+// The refusal's number and detail.
+impl From<SwitchFault> for Refusal {
+    ghost from_gives = { λ f r. (r.number, r.detail) ≡ refusal_of f };
 
-    // What the refusal says beside its number.
-    pub fn detail(&self) -> u64
-        ensures { result ≡ (refusal_of self.now).1 }
-    {
-        match self {
-            SwitchFault::Frame(fault) => fault.detail(),
-            SwitchFault::Tables(fault) => fault.detail(),
+    fn from(fault: SwitchFault) -> Refusal {
+        match fault {
+            SwitchFault::Frame(fault) => Refusal::from(fault),
+            SwitchFault::Tables(fault) => Refusal::from(fault),
         }
     }
 }

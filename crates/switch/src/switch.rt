@@ -8,8 +8,8 @@ ghost use Rattle.switch.specs.Totals.{after_frame, none_yet};
 
 use super::fault::SwitchFault;
 use super::totals::Totals;
-use datapath::{Level, Peek, RuleRecord};
-use packet::read_key;
+use datapath::{Level, Peek, RuleName, RuleRecord};
+use packet::Reader;
 
 #[derive(Drop)]
 pub struct Switch<L: Level> {
@@ -31,19 +31,12 @@ impl<L: Level> Switch<L> {
     {
         Switch {
             level,
-            totals: Totals {
-                frames: 0,
-                depth1: 0,
-                depth2: 0,
-                deeper: 0,
-            },
+            totals: Totals::default(),
         }
     }
 
     // Decides a frame that came in at a port, and counts it.
     pub fn frame(&mut self, in_port: u16, frame: &[u8]) -> Result<Forwarded, SwitchFault>
-        requires { L.Level.sound self.old.level }
-        ensures kept { L.Level.sound self.new.level }
         ensures value { MatchResult result (λ f. (refusal in_port frame.now ≡ None) × (f.ports ≡ ports_of (walk (L.Level.rules self.old.level) (key_of in_port frame.now)))) (λ e. refusal in_port frame.now ≡ Some (refusal_of e)) }
         ensures counted { MatchResult result (λ f. L.Level.rules self.new.level ≡ due (L.Level.rules self.old.level) (key_of in_port frame.now) 1) (λ _. L.Level.rules self.new.level ≡ L.Level.rules self.old.level) }
         ensures totals { MatchResult result (λ f. self.new.totals ≡ after_frame self.old.totals f.depth) (λ _. self.new.totals ≡ self.old.totals) }
@@ -51,7 +44,7 @@ impl<L: Level> Switch<L> {
         ensures hit { IfOk result (λ f. L.Level.holds self.old.level (key_of in_port frame.now) → f.depth ≡ 1) }
         ensures installed { OnOk result (L.Level.installs → L.Level.holds self.new.level (key_of in_port frame.now)) }
     {
-        let key = read_key(in_port, frame)?;
+        let key = Reader::open(in_port, frame)?.key();
         let decision = self.level.decide(&key);
         let depth = decision.depth;
         self.totals = self.totals.note(depth);
@@ -63,45 +56,36 @@ impl<L: Level> Switch<L> {
 
     // Where a frame would go. Changes nothing.
     pub fn peek(&self, in_port: u16, frame: &[u8]) -> Result<Peek, SwitchFault>
-        requires { L.Level.sound self.now.level }
         ensures given { IfOk result (λ p. L.Level.gives self.now.level (key_of in_port frame.now) p.mask) }
         ensures value { MatchResult result (λ p. (refusal in_port frame.now ≡ None) × (p.ports ≡ ports_of (walk (L.Level.rules self.now.level) (key_of in_port frame.now))) × Tells (L.Level.rules self.now.level) (key_of in_port frame.now) p.mask) (λ e. refusal in_port frame.now ≡ Some (refusal_of e)) }
     {
-        let key = read_key(in_port, frame)?;
+        let key = Reader::open(in_port, frame)?.key();
         Ok(self.level.peek(&key))
     }
 
     // One rule more.
     pub fn add(&mut self, rule: &RuleRecord) -> Result<(), SwitchFault>
-        requires { L.Level.sound self.old.level }
-        ensures kept { L.Level.sound self.new.level }
         ensures value { MatchResult result (λ _. (add_fault (L.Level.rules self.old.level) rule.now ≡ None) × (L.Level.rules self.new.level ≡ with_rule (L.Level.rules self.old.level) rule.now)) (λ e. (add_fault (L.Level.rules self.old.level) rule.now ≡ Some (refusal_of e)) × (L.Level.rules self.new.level ≡ L.Level.rules self.old.level)) }
         ensures totals { self.new.totals ≡ self.old.totals }
     {
-        self.level.add(rule)?;
-        Ok(())
+        Ok(self.level.add(rule)?)
     }
 
     // The rule of this id leaves its table.
-    pub fn remove(&mut self, table: u32, id: u32) -> Result<(), SwitchFault>
-        requires { L.Level.sound self.old.level }
-        ensures kept { L.Level.sound self.new.level }
-        ensures value { MatchResult result (λ _. (missing_fault (L.Level.rules self.old.level) table id ≡ None) × (L.Level.rules self.new.level ≡ without_rule (L.Level.rules self.old.level) table id)) (λ e. (missing_fault (L.Level.rules self.old.level) table id ≡ Some (refusal_of e)) × (L.Level.rules self.new.level ≡ L.Level.rules self.old.level)) }
+    pub fn remove(&mut self, name: RuleName) -> Result<(), SwitchFault>
+        ensures value { MatchResult result (λ _. (missing_fault (L.Level.rules self.old.level) name.table name.id ≡ None) × (L.Level.rules self.new.level ≡ without_rule (L.Level.rules self.old.level) name.table name.id)) (λ e. (missing_fault (L.Level.rules self.old.level) name.table name.id ≡ Some (refusal_of e)) × (L.Level.rules self.new.level ≡ L.Level.rules self.old.level)) }
         ensures totals { self.new.totals ≡ self.old.totals }
     {
-        self.level.remove(table, id)?;
-        Ok(())
+        Ok(self.level.remove(name)?)
     }
 
     // The due count of the rule of this id.
-    pub fn count(&mut self, table: u32, id: u32) -> Result<u64, SwitchFault>
-        requires { L.Level.sound self.old.level }
-        ensures kept { L.Level.sound self.new.level }
+    pub fn count(&mut self, name: RuleName) -> Result<u64, SwitchFault>
         ensures same { L.Level.rules self.new.level ≡ L.Level.rules self.old.level }
-        ensures value { MatchResult result (λ n. (missing_fault (L.Level.rules self.old.level) table id ≡ None) × (n ≡ rule_count (L.Level.rules self.old.level) table id)) (λ e. missing_fault (L.Level.rules self.old.level) table id ≡ Some (refusal_of e)) }
+        ensures value { MatchResult result (λ n. (missing_fault (L.Level.rules self.old.level) name.table name.id ≡ None) × (n ≡ rule_count (L.Level.rules self.old.level) name.table name.id)) (λ e. missing_fault (L.Level.rules self.old.level) name.table name.id ≡ Some (refusal_of e)) }
         ensures totals { self.new.totals ≡ self.old.totals }
     {
-        Ok(self.level.count(table, id)?)
+        Ok(self.level.count(name)?)
     }
 
     // The four totals.

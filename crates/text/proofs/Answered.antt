@@ -2,7 +2,8 @@
 use Rattle.std.proofs.Common.{◌≡◌, ℕ, List, Some, None, Option, sym, ap, ◌∙◌}
 use Rattle.packet.specs.Faults.{Refusal}
 use Rattle.packet.specs.Frames.{Span, refusal, key_of, ipv4_of, transport_of}
-use Rattle.text.specs.Lines.{reading_text, refusal_text, outcome_text, answer_text}
+use Rattle.refusal.specs.Texts.{refusal_text}
+use Rattle.text.specs.Lines.{reading_text, outcome_text, answer_text}
 
 -- a frame that is read, by its key and parts
 pub read_text : (port : ℕ) (f k : List ℕ) (a b : Option Span) → refusal port f ≡ None → k ≡ key_of port f → a ≡ ipv4_of f → b ≡ transport_of f → reading_text k a b ≡ answer_text port f

@@ -1,13 +1,15 @@
 -- The lines that answer the calls of the two switches.
-use Rattle.std.specs.Prelude.{ℕ, zero, suc, ◌/◌, ◌%◌, ◌^◌, Bool, true, false, cond, ◌&&◌, List, [], ◌∷◌, ◌++◌, codes, ◌==◌}
-use Rattle.text.specs.declared.answer.Answer.{Answer}
-use Rattle.text.specs.declared.answer.Answer.TheVariants.{Done, Count, Ports, Refused}
-use Rattle.text.specs.declared.answer.Sums.{Sums}
+use Rattle.std.specs.Prelude.{ℕ, Ok, Err, Result, zero, suc, ◌/◌, ◌%◌, ◌^◌, Bool, true, false, cond, ◌&&◌, List, [], ◌++◌, codes, ◌==◌}
+use Rattle.refusal.specs.declared.Refusal.{Refusal}
+use Rattle.refusal.specs.Texts.{refusal_text}
+use Rattle.switch.specs.declared.totals.Totals.{Totals as Counted}
+use Rattle.text.specs.declared.answer.Reply.{Reply}
+use Rattle.text.specs.declared.answer.Reply.TheVariants.{Done, Count, Ports}
 use Rattle.text.specs.declared.answer.Verb.{Verb}
 use Rattle.text.specs.declared.answer.Verb.TheVariants.{Add, Remove, Count as Counts, Frame, Peek, Totals, Report}
 use Rattle.text.specs.declared.place.Place.{Place}
-use Rattle.text.specs.Lines.{refusal_text, place_text}
-use Rattle.text.specs.Texts.{decimal_text, hex2}
+use Rattle.text.specs.Lines.{place_text}
+use Rattle.text.specs.Texts.{decimal_text, bytes_text}
 
 -- bit p of a set says whether port p is in it
 abbrev pub in_set : ℕ → ℕ → Bool
@@ -27,37 +29,45 @@ ports_below set zero = []
 ports_below set (suc n) = ports_below set n ++ port_text set n
 
 -- the ports of a set, or none
-unfoldable pub ports_text : ℕ → List ℕ
+abbrev pub ports_text : ℕ → List ℕ
 ports_text set = cond (set == 0) (codes "none") (ports_below set 64)
 
+-- what one switch answers: a reply or a refusal
+abbrev pub Answer : Type 0
+Answer = Result Reply Refusal
+
+-- a reply
+abbrev pub reply_text : Reply → List ℕ
+reply_text Done = codes "ok"
+reply_text (Count n) = codes "count=" ++ decimal_text n
+reply_text (Ports set) = codes "ports=" ++ ports_text set
+
 -- what one switch answers
-unfoldable pub said_text : Answer → List ℕ
-said_text Done = codes "ok"
-said_text (Count n) = codes "count=" ++ decimal_text n
-said_text (Ports set) = codes "ports=" ++ ports_text set
-said_text (Refused number detail) = refusal_text number detail
+abbrev pub said_text : Answer → List ℕ
+said_text (Ok r) = reply_text r
+said_text (Err x) = refusal_text x.number x.detail
+
+-- whether two replies are the same
+abbrev pub same_reply : Reply → Reply → Bool
+same_reply Done Done = true
+same_reply Done (Count n) = false
+same_reply Done (Ports t) = false
+same_reply (Count m) Done = false
+same_reply (Count m) (Count n) = m == n
+same_reply (Count m) (Ports t) = false
+same_reply (Ports s) Done = false
+same_reply (Ports s) (Count n) = false
+same_reply (Ports s) (Ports t) = s == t
 
 -- whether two answers are the same
 abbrev pub same_answer : Answer → Answer → Bool
-same_answer Done Done = true
-same_answer Done (Count n) = false
-same_answer Done (Ports t) = false
-same_answer Done (Refused k l) = false
-same_answer (Count m) Done = false
-same_answer (Count m) (Count n) = m == n
-same_answer (Count m) (Ports t) = false
-same_answer (Count m) (Refused k l) = false
-same_answer (Ports s) Done = false
-same_answer (Ports s) (Count n) = false
-same_answer (Ports s) (Ports t) = s == t
-same_answer (Ports s) (Refused k l) = false
-same_answer (Refused i j) Done = false
-same_answer (Refused i j) (Count n) = false
-same_answer (Refused i j) (Ports t) = false
-same_answer (Refused i j) (Refused k l) = i == k && j == l
+same_answer (Ok r) (Ok s) = same_reply r s
+same_answer (Ok r) (Err y) = false
+same_answer (Err x) (Ok s) = false
+same_answer (Err x) (Err y) = x.number == y.number && x.detail == y.detail
 
 -- one answer where both are the same, else both
-unfoldable pub both_text : Answer → Answer → List ℕ
+abbrev pub both_text : Answer → Answer → List ℕ
 both_text a b =
     cond (same_answer a b) (said_text a) (codes "differ A=" ++ said_text a ++ codes " B=" ++ said_text b)
 
@@ -72,67 +82,66 @@ verb_text Totals = codes "totals"
 verb_text Report = codes "report"
 
 -- a line of output: where it comes from, the call's word, and what is said
-unfoldable pub start_text : Place → Verb → List ℕ
+abbrev pub start_text : Place → Verb → List ℕ
 start_text place verb = place_text place ++ codes " " ++ verb_text verb ++ codes ": "
 
 -- the line that answers a call
-unfoldable pub answer_line : Place → Verb → Answer → Answer → List ℕ
+abbrev pub answer_line : Place → Verb → Answer → Answer → List ℕ
 answer_line place verb a b = start_text place verb ++ both_text a b ++ codes "\n"
 
 -- the line that answers a call by a word of the caller's
-unfoldable pub word_line : Place → List ℕ → Answer → Answer → List ℕ
+abbrev pub word_line : Place → List ℕ → Answer → Answer → List ℕ
 word_line place word a b = place_text place ++ codes " " ++ word ++ codes ": " ++ both_text a b ++ codes "\n"
 
 -- whether both answers name the same ports
 abbrev pub same_ports : Answer → Answer → Bool
-same_ports Done b = false
-same_ports (Count n) b = false
-same_ports (Ports s) b = same_answer (Ports s) b
-same_ports (Refused k l) b = false
+same_ports (Ok Done) b = false
+same_ports (Ok (Count n)) b = false
+same_ports (Ok (Ports s)) b = same_answer (Ok (Ports s)) b
+same_ports (Err x) b = false
 
 -- the depths at which A and B decided
-unfoldable pub depths_text : ℕ → ℕ → List ℕ
+abbrev pub depths_text : ℕ → ℕ → List ℕ
 depths_text a b = codes " depth=A:" ++ decimal_text a ++ codes ",B:" ++ decimal_text b
 
+-- the answers, and more behind them where both name the same ports
+abbrev pub with_ports : Answer → Answer → List ℕ → List ℕ
+with_ports a b more = both_text a b ++ cond (same_ports a b) more []
+
 -- the ports, with the depths behind them, or how the answers differ
-unfoldable pub forwarded_text : Answer → Answer → ℕ → ℕ → List ℕ
-forwarded_text a b m n = both_text a b ++ cond (same_ports a b) (depths_text m n) []
+abbrev pub forwarded_text : Answer → Answer → ℕ → ℕ → List ℕ
+forwarded_text a b m n = with_ports a b (depths_text m n)
 
 -- the line that answers a frame
-unfoldable pub frame_line : Place → Answer → Answer → ℕ → ℕ → List ℕ
+abbrev pub frame_line : Place → Answer → Answer → ℕ → ℕ → List ℕ
 frame_line place a b m n = start_text place Frame ++ forwarded_text a b m n ++ codes "\n"
 
--- bytes, two digits each
-unfoldable pub bytes_text : List ℕ → List ℕ
-bytes_text [] = []
-bytes_text (x ∷ xs) = hex2 x ++ bytes_text xs
-
 -- the masks of A and B
-unfoldable pub masks_text : List ℕ → List ℕ → List ℕ
+abbrev pub masks_text : List ℕ → List ℕ → List ℕ
 masks_text a b = codes " mask=A:" ++ bytes_text a ++ codes ",B:" ++ bytes_text b
 
 -- the ports, with the masks behind them, or how the answers differ
-unfoldable pub peeked_text : Answer → Answer → List ℕ → List ℕ → List ℕ
-peeked_text a b m n = both_text a b ++ cond (same_ports a b) (masks_text m n) []
+abbrev pub peeked_text : Answer → Answer → List ℕ → List ℕ → List ℕ
+peeked_text a b m n = with_ports a b (masks_text m n)
 
 -- the line that answers `peek`
-unfoldable pub peek_line : Place → Answer → Answer → List ℕ → List ℕ → List ℕ
+abbrev pub peek_line : Place → Answer → Answer → List ℕ → List ℕ → List ℕ
 peek_line place a b m n = start_text place Peek ++ peeked_text a b m n ++ codes "\n"
 
 -- a rule by its table and its id
-unfoldable pub rule_text : ℕ → ℕ → List ℕ
+abbrev pub rule_text : ℕ → ℕ → List ℕ
 rule_text table id = codes "table=" ++ decimal_text table ++ codes " id=" ++ decimal_text id ++ codes " "
 
 -- the line of a standing rule in a report
-unfoldable pub report_line : Place → ℕ → ℕ → Answer → Answer → List ℕ
+abbrev pub report_line : Place → ℕ → ℕ → Answer → Answer → List ℕ
 report_line place table id a b = start_text place Report ++ rule_text table id ++ both_text a b ++ codes "\n"
 
 -- what one switch has counted
-unfoldable pub sums_text : Sums → List ℕ
-sums_text s =
+unfoldable pub counted_text : Counted → List ℕ
+counted_text s =
     codes " frames=" ++ decimal_text s.frames ++ codes " depth1=" ++ decimal_text s.depth1
     ++ codes " depth2=" ++ decimal_text s.depth2 ++ codes " deeper=" ++ decimal_text s.deeper
 
 -- the line that answers `totals`
-unfoldable pub totals_line : Place → Sums → Sums → List ℕ
-totals_line place a b = start_text place Totals ++ codes "A" ++ sums_text a ++ codes "; B" ++ sums_text b ++ codes "\n"
+abbrev pub totals_line : Place → Counted → Counted → List ℕ
+totals_line place a b = start_text place Totals ++ codes "A" ++ counted_text a ++ codes "; B" ++ counted_text b ++ codes "\n"

@@ -1,5 +1,6 @@
 -- The line that answers a frame.
 use Rattle.std.specs.Prelude.{ℕ, List, ◌++◌, length, Some, None, codes, Option}
+use Rattle.refusal.specs.Texts.{refusal_text}
 use Rattle.packet.specs.Faults.{Refusal}
 use Rattle.packet.specs.Frames.{Span, refusal, key_of, ipv4_of, transport_of}
 use Rattle.text.specs.declared.place.Place.{Place}
@@ -13,10 +14,6 @@ part_text (Some s) = decimal_text s.offset ++ codes "+" ++ decimal_text (length 
 -- a key, and where the IPv4 header and the transport part lie in the frame
 unfoldable pub reading_text : List ℕ → Option Span → Option Span → List ℕ
 reading_text k ipv4 transport = key_text k ++ codes " ipv4=" ++ part_text ipv4 ++ codes " transport=" ++ part_text transport
-
--- a refusal, its detail in brackets
-unfoldable pub refusal_text : ℕ → ℕ → List ℕ
-refusal_text number detail = codes "refused " ++ decimal_text number ++ codes " (" ++ decimal_text detail ++ codes ")"
 
 -- a frame that is refused, or read
 abbrev pub outcome_text : ℕ → List ℕ → Option Refusal → List ℕ
@@ -33,7 +30,7 @@ frame_text None line = line
 frame_text (Some i) line = line ++ codes "." ++ decimal_text i
 
 -- the line of the statement, and the number of the frame
-unfoldable pub place_text : Place → List ℕ
+abbrev pub place_text : Place → List ℕ
 place_text p = frame_text p.frame (decimal_text p.line)
 
 -- the whole line of output

@@ -1,9 +1,6 @@
 -- The text of an answer, as bytes of ASCII.
-use Rattle.std.specs.Prelude.{◌≡◌, ℕ, ◌+◌, ◌*◌, ◌/◌, ◌%◌, cond, List, [], ◌∷◌, ◌++◌, codes, decimal, nat_lt, slice_index}
-
--- what a buffer holds after is what it held before, with a text behind it
-pub record Appended (before after text : List ℕ) : Type 0 where
-  pub is : after ≡ before ++ text
+use Rattle.std.specs.Prelude.{ℕ, ◌+◌, ◌*◌, ◌/◌, ◌%◌, cond, List, [], ◌∷◌, ◌++◌, codes, decimal, nat_lt, slice_index}
+use Rattle.std.specs.List.{flat_map}
 
 -- a digit below 16, in lower case
 abbrev pub hex_digit : ℕ → ℕ
@@ -13,8 +10,12 @@ hex_digit n = cond (nat_lt n 10) (48 + n) (87 + n)
 abbrev pub hex2 : ℕ → List ℕ
 hex2 b = hex_digit (b / 16) ∷ hex_digit (b % 16) ∷ []
 
+-- bytes, two digits each
+abbrev pub bytes_text : List ℕ → List ℕ
+bytes_text xs = flat_map hex2 xs
+
 -- a 16-bit number, by its two bytes, as four digits
-abbrev pub hex_text : ℕ → ℕ → List ℕ
+unfoldable pub hex_text : ℕ → ℕ → List ℕ
 hex_text high low = hex2 high ++ hex2 low
 
 -- the low 12 bits of such a number as three digits
@@ -22,7 +23,7 @@ abbrev pub flags_text : ℕ → ℕ → List ℕ
 flags_text high low = hex_digit (high % 16) ∷ hex2 low
 
 -- a number in decimal, with no leading zero
-unfoldable pub decimal_text : ℕ → List ℕ
+abbrev pub decimal_text : ℕ → List ℕ
 decimal_text n = decimal n
 
 -- the byte at a place
@@ -30,16 +31,22 @@ abbrev pub byte : List ℕ → ℕ → ℕ
 byte k i = slice_index k i
 
 -- six bytes with colons between, as 02:00:00:00:00:01
+unfoldable pub colons_text : ℕ → ℕ → ℕ → ℕ → ℕ → ℕ → List ℕ
+colons_text a b c d e f =
+    hex2 a ++ codes ":" ++ hex2 b ++ codes ":" ++ hex2 c ++ codes ":" ++ hex2 d ++ codes ":" ++ hex2 e ++ codes ":" ++ hex2 f
+
+-- those that stand from a place on
 abbrev pub mac_text : List ℕ → ℕ → List ℕ
 mac_text k i =
-    hex2 (byte k i) ++ codes ":" ++ hex2 (byte k (i + 1)) ++ codes ":" ++ hex2 (byte k (i + 2))
-    ++ codes ":" ++ hex2 (byte k (i + 3)) ++ codes ":" ++ hex2 (byte k (i + 4)) ++ codes ":" ++ hex2 (byte k (i + 5))
+    colons_text (byte k i) (byte k (i + 1)) (byte k (i + 2)) (byte k (i + 3)) (byte k (i + 4)) (byte k (i + 5))
 
 -- four bytes in decimal with dots between, as 10.0.0.1
+unfoldable pub dots_text : ℕ → ℕ → ℕ → ℕ → List ℕ
+dots_text a b c d = decimal_text a ++ codes "." ++ decimal_text b ++ codes "." ++ decimal_text c ++ codes "." ++ decimal_text d
+
+-- those that stand from a place on
 abbrev pub quad_text : List ℕ → ℕ → List ℕ
-quad_text k i =
-    decimal_text (byte k i) ++ codes "." ++ decimal_text (byte k (i + 1))
-    ++ codes "." ++ decimal_text (byte k (i + 2)) ++ codes "." ++ decimal_text (byte k (i + 3))
+quad_text k i = dots_text (byte k i) (byte k (i + 1)) (byte k (i + 2)) (byte k (i + 3))
 
 -- a 16-bit number of two bytes, in decimal
 abbrev pub word_text : List ℕ → ℕ → List ℕ

@@ -1,33 +1,30 @@
 // The lines that answer the calls of the two switches.
-// The functions here that begin with `put` ask for room in the buffer, and then cannot fail.
-ghost use Rattle.std.specs.Prelude.{◌≡◌, ℕ, ◌+◌, ◌<◌, ◌≤◌, ◌++◌, is_ok, if◌then◌else◌, vec_len, vec_capacity};
-ghost use Rattle.text.specs.Texts.{Appended};
-ghost use Rattle.text.specs.Answers.{port_text, ports_text, said_text, same_answer, same_ports, both_text, verb_text, start_text};
-ghost use Rattle.text.specs.Answers.{answer_line, word_line, depths_text, forwarded_text, frame_line, bytes_text, masks_text, peeked_text, peek_line, rule_text, report_line, sums_text, totals_line};
+ghost use Rattle.std.specs.Prelude.{◌≡◌, ℕ, List, Some, IfSome, [], ◌++◌, cond, is_ok, if◌then◌else◌};
+ghost use Rattle.std.specs.Option.{option_map};
+ghost use Rattle.text.specs.Answers.{ports_text, reply_text, said_text, same_ports, both_text, with_ports, verb_text, depths_text, masks_text, counted_text};
+ghost use Rattle.text.specs.Answers.{answer_line, word_line, frame_line, peek_line, report_line, totals_line};
 
-use super::place::{Place, put_place};
-use super::put::{put, put_byte, put_hex2, put_number, put_refusal};
+use super::hex::Bytes;
+use super::page::Page;
+use super::place::Place;
+use datapath::RuleName;
+use refusal::Refusal;
+use sides::Sides;
 use std::alloc::AllocError;
+use std::fmt;
+use switch::Totals;
 
-// What one switch answers.
+// What one switch answers to a call that it accepts.
 #[derive(Debug, Clone, Copy, PartialEq, Eq)]
-pub enum Answer {
+pub enum Reply {
     Done,
     Count(u64),
     // bit p for port p
     Ports(u64),
-    // a refusal's number and its detail
-    Refused(u8, u64),
 }
 
-// What one switch has counted: frames, those at depth 1, at depth 2, and deeper.
-#[derive(Clone, Copy)]
-pub struct Sums {
-    pub frames: u64,
-    pub depth1: u64,
-    pub depth2: u64,
-    pub deeper: u64,
-}
+// What one switch answers.
+pub type Answer = Result<Reply, Refusal>;
 
 // The word of the call that a line answers.
 #[derive(Clone, Copy)]
@@ -41,328 +38,254 @@ pub enum Verb {
     Report,
 }
 
-// Room for a line: none of those below is longer.
-const LONGEST: usize = 1024;
+impl fmt::Display for Verb {
+    ghost output = { λ v. Some (verb_text v) };
 
-// A port of a set, behind a comma where a lower one is in the set.
-fn put_port(out: &mut Vec<u8>, ports: u64, port: u64)
-    requires { (vec_len out.old + 4 ≤ vec_capacity out.old) × (port < 64) }
-    ensures items { Appended out.old.items out.new.items (port_text ports port) }
-    ensures len { vec_len out.new ≤ vec_len out.old + 4 }
-    ensures capacity { vec_capacity out.old ≤ vec_capacity out.new }
-{
-    if (ports >> port) % 2 != 1 {
-        return;
-    }
-    if ports % (1u64 << port) == 0 {
-        put_byte(out, port as u8);
-    } else {
-        put(out, b",");
-        put_byte(out, port as u8);
+    fn fmt<W: fmt::Write>(&self, f: &mut fmt::Formatter<W>) -> fmt::Result {
+        f.write_str(match self {
+            Verb::Add => "add",
+            Verb::Remove => "remove",
+            Verb::Count => "count",
+            Verb::Frame => "frame",
+            Verb::Peek => "peek",
+            Verb::Totals => "totals",
+            Verb::Report => "report",
+        })
     }
 }
 
 // The ports of a set, with commas between, or none.
-fn put_ports(out: &mut Vec<u8>, ports: u64)
-    requires { vec_len out.old + 256 ≤ vec_capacity out.old }
-    ensures items { Appended out.old.items out.new.items (ports_text ports) }
-    ensures len { vec_len out.new ≤ vec_len out.old + 256 }
-    ensures capacity { vec_capacity out.old ≤ vec_capacity out.new }
-{
-    if ports == 0 {
-        put(out, b"none");
-        return;
+#[derive(Clone, Copy)]
+struct Ports(u64);
+
+impl fmt::Display for Ports {
+    ghost output = { λ p. Some (ports_text p.0) };
+
+    fn fmt<W: fmt::Write>(&self, f: &mut fmt::Formatter<W>) -> fmt::Result {
+        let Ports(set) = *self;
+        if set == 0 {
+            return f.write_str("none");
+        }
+        let mut below = 0u32;
+        while below < 64 && set >> below != 0 {
+            let port = below + (set >> below).trailing_zeros();
+            if set % (1u64 << port) != 0 {
+                f.write_str(",")?;
+            }
+            port.fmt(f)?;
+            below = port + 1;
+        }
+        Ok(())
     }
-    for port in 0..64u64 {
-        put_port(out, ports, port);
+}
+
+impl fmt::Display for Reply {
+    ghost output = { λ r. Some (reply_text r) };
+
+    fn fmt<W: fmt::Write>(&self, f: &mut fmt::Formatter<W>) -> fmt::Result {
+        match self {
+            Reply::Done => f.write_str("ok"),
+            Reply::Count(n) => write!(f, "count={n}"),
+            Reply::Ports(set) => {
+                f.write_str("ports=")?;
+                Ports(*set).fmt(f)
+            }
+        }
     }
 }
 
 // What one switch answers.
-fn put_said(out: &mut Vec<u8>, answer: Answer)
-    requires { vec_len out.old + 262 ≤ vec_capacity out.old }
-    ensures items { Appended out.old.items out.new.items (said_text answer) }
-    ensures len { vec_len out.new ≤ vec_len out.old + 262 }
-    ensures capacity { vec_capacity out.old ≤ vec_capacity out.new }
-{
-    match answer {
-        Answer::Done => put(out, b"ok"),
-        Answer::Count(n) => {
-            put(out, b"count=");
-            put_number(out, n);
-        }
-        Answer::Ports(ports) => {
-            put(out, b"ports=");
-            put_ports(out, ports);
-        }
-        Answer::Refused(number, detail) => put_refusal(out, number, detail),
-    }
-}
+#[derive(Clone, Copy)]
+struct Said<'a>(&'a Answer);
 
-// Whether two answers are the same.
-pub fn same(a: Answer, b: Answer) -> bool
-    ensures { result ≡ same_answer a b }
-{
-    match (a, b) {
-        (Answer::Done, Answer::Done) => true,
-        (Answer::Count(m), Answer::Count(n)) => m == n,
-        (Answer::Ports(s), Answer::Ports(t)) => s == t,
-        (Answer::Refused(i, j), Answer::Refused(k, l)) => i == k && j == l,
-        _ => false,
+impl fmt::Display for Said<'_> {
+    ghost output = { λ s. Some (said_text s.0.now) };
+
+    fn fmt<W: fmt::Write>(&self, f: &mut fmt::Formatter<W>) -> fmt::Result {
+        match self.0 {
+            Ok(reply) => reply.fmt(f),
+            Err(refusal) => refusal.fmt(f),
+        }
     }
 }
 
 // One answer where both are the same, else both.
-fn put_both(out: &mut Vec<u8>, a: Answer, b: Answer)
-    requires { vec_len out.old + 536 ≤ vec_capacity out.old }
-    ensures items { Appended out.old.items out.new.items (both_text a b) }
-    ensures len { vec_len out.new ≤ vec_len out.old + 536 }
-    ensures capacity { vec_capacity out.old ≤ vec_capacity out.new }
-{
-    if same(a, b) {
-        put_said(out, a);
-        return;
-    }
-    put(out, b"differ A=");
-    put_said(out, a);
-    put(out, b" B=");
-    put_said(out, b);
-}
+#[derive(Clone, Copy)]
+struct Both<'a>(&'a Sides<Answer>);
 
-fn put_verb(out: &mut Vec<u8>, verb: Verb)
-    requires { vec_len out.old + 6 ≤ vec_capacity out.old }
-    ensures items { Appended out.old.items out.new.items (verb_text verb) }
-    ensures len { vec_len out.new ≤ vec_len out.old + 6 }
-    ensures capacity { vec_capacity out.old ≤ vec_capacity out.new }
-{
-    match verb {
-        Verb::Add => put(out, b"add"),
-        Verb::Remove => put(out, b"remove"),
-        Verb::Count => put(out, b"count"),
-        Verb::Frame => put(out, b"frame"),
-        Verb::Peek => put(out, b"peek"),
-        Verb::Totals => put(out, b"totals"),
-        Verb::Report => put(out, b"report"),
+impl fmt::Display for Both<'_> {
+    ghost output = { λ s. Some (both_text s.0.now.a s.0.now.b) };
+
+    fn fmt<W: fmt::Write>(&self, f: &mut fmt::Formatter<W>) -> fmt::Result {
+        let Sides { a, b } = self.0;
+        if a == b {
+            return Said(a).fmt(f);
+        }
+        write!(f, "differ A={} B={}", Said(a), Said(b))
     }
 }
 
-// The place and the word that begin a line.
-fn put_start(out: &mut Vec<u8>, place: Place, verb: Verb)
-    requires { vec_len out.old + 50 ≤ vec_capacity out.old }
-    ensures items { Appended out.old.items out.new.items (start_text place verb) }
-    ensures len { vec_len out.new ≤ vec_len out.old + 50 }
-    ensures capacity { vec_capacity out.old ≤ vec_capacity out.new }
+// The line that answers a call by a word, or nothing where there is no memory for it.
+fn said_line<D: fmt::Display + Drop>(
+    page: &mut Page,
+    place: Place,
+    word: D,
+    answers: Sides<Answer>,
+) -> Result<(), AllocError>
+    ensures { IfSome (D.output word) (λ w. page.new ≡ (if is_ok result then page.old ++ word_line place w answers.a answers.b else page.old)) }
 {
-    put_place(out, place);
-    put(out, b" ");
-    put_verb(out, verb);
-    put(out, b": ");
+    page.put(format_args!("{place} {word}: {}\n", Both(&answers)))
 }
 
 // The line that answers a call, or nothing where there is no memory for it.
 pub fn answer_line(
-    out: &mut Vec<u8>,
+    page: &mut Page,
     place: Place,
     verb: Verb,
-    a: Answer,
-    b: Answer,
+    answers: Sides<Answer>,
 ) -> Result<(), AllocError>
-    ensures { out.new.items ≡ (if is_ok result then out.old.items ++ answer_line place verb a b else out.old.items) }
+    ensures { page.new ≡ (if is_ok result then page.old ++ answer_line place verb answers.a answers.b else page.old) }
 {
-    out.reserve(LONGEST)?;
-    put_start(out, place, verb);
-    put_both(out, a, b);
-    put(out, b"\n");
-    Ok(())
+    said_line(page, place, verb, answers)
 }
 
 // The line that answers a call by a word of the caller's, or nothing where there is no memory for it.
 pub fn word_line(
-    out: &mut Vec<u8>,
+    page: &mut Page,
     place: Place,
     word: &str,
-    a: Answer,
-    b: Answer,
+    answers: Sides<Answer>,
 ) -> Result<(), AllocError>
-    ensures { out.new.items ≡ (if is_ok result then out.old.items ++ word_line place word.now a b else out.old.items) }
+    ensures { page.new ≡ (if is_ok result then page.old ++ word_line place word.now answers.a answers.b else page.old) }
 {
-    out.reserve(LONGEST + word.len())?;
-    put_place(out, place);
-    put(out, b" ");
-    put(out, word.as_bytes());
-    put(out, b": ");
-    put_both(out, a, b);
-    put(out, b"\n");
-    Ok(())
+    said_line(page, place, word, answers)
 }
 
 // Whether both name the same ports.
-fn name_same(a: Answer, b: Answer) -> bool
-    ensures { result ≡ same_ports a b }
+fn name_same(answers: &Sides<Answer>) -> bool
+    ensures { result ≡ same_ports answers.now.a answers.now.b }
 {
-    match a {
-        Answer::Ports(_) => same(a, b),
-        _ => false,
+    matches!(answers.a, Ok(Reply::Ports(_))) && answers.a == answers.b
+}
+
+// The answers, and more behind them where both name the same ports.
+#[derive(Drop)]
+struct WithPorts<'a, D> {
+    answers: &'a Sides<Answer>,
+    more: D,
+}
+
+impl<D: fmt::Display> fmt::Display for WithPorts<'_, D> {
+    ghost output = { λ s. option_map (with_ports s.answers.now.a s.answers.now.b) (D.output s.more) };
+
+    fn fmt<W: fmt::Write>(&self, f: &mut fmt::Formatter<W>) -> fmt::Result {
+        Both(self.answers).fmt(f)?;
+        if name_same(self.answers) {
+            self.more.fmt(f)?;
+        }
+        Ok(())
     }
 }
 
-fn put_depths(out: &mut Vec<u8>, a: u8, b: u8)
-    requires { vec_len out.old + 18 ≤ vec_capacity out.old }
-    ensures items { Appended out.old.items out.new.items (depths_text a b) }
-    ensures len { vec_len out.new ≤ vec_len out.old + 18 }
-    ensures capacity { vec_capacity out.old ≤ vec_capacity out.new }
-{
-    put(out, b" depth=A:");
-    put_byte(out, a);
-    put(out, b",B:");
-    put_byte(out, b);
-}
+// The depths at which A and B decided.
+#[derive(Clone, Copy)]
+struct Depths(Sides<u8>);
 
-// The ports of a frame, with the depths of both switches, or how the answers differ.
-fn put_forwarded(out: &mut Vec<u8>, a: Answer, b: Answer, depth_a: u8, depth_b: u8)
-    requires { vec_len out.old + 554 ≤ vec_capacity out.old }
-    ensures items { Appended out.old.items out.new.items (forwarded_text a b depth_a depth_b) }
-    ensures len { vec_len out.new ≤ vec_len out.old + 554 }
-    ensures capacity { vec_capacity out.old ≤ vec_capacity out.new }
-{
-    put_both(out, a, b);
-    if name_same(a, b) {
-        put_depths(out, depth_a, depth_b);
+impl fmt::Display for Depths {
+    ghost output = { λ d. Some (depths_text d.0.a d.0.b) };
+
+    fn fmt<W: fmt::Write>(&self, f: &mut fmt::Formatter<W>) -> fmt::Result {
+        let Depths(Sides { a, b }) = *self;
+        write!(f, " depth=A:{a},B:{b}")
     }
 }
 
 // The line that answers a frame, or nothing where there is no memory for it.
 pub fn frame_line(
-    out: &mut Vec<u8>,
+    page: &mut Page,
     place: Place,
-    a: Answer,
-    b: Answer,
-    depth_a: u8,
-    depth_b: u8,
+    answers: Sides<Answer>,
+    depths: Sides<u8>,
 ) -> Result<(), AllocError>
-    ensures { out.new.items ≡ (if is_ok result then out.old.items ++ frame_line place a b depth_a depth_b else out.old.items) }
+    ensures { page.new ≡ (if is_ok result then page.old ++ frame_line place answers.a answers.b depths.a depths.b else page.old) }
 {
-    out.reserve(LONGEST)?;
-    put_start(out, place, Verb::Frame);
-    put_forwarded(out, a, b, depth_a, depth_b);
-    put(out, b"\n");
-    Ok(())
+    let forwarded = WithPorts {
+        answers: &answers,
+        more: Depths(depths),
+    };
+    page.put(format_args!("{place} frame: {forwarded}\n"))
 }
 
-fn put_mask(out: &mut Vec<u8>, mask: &[u8; 36])
-    requires { vec_len out.old + 72 ≤ vec_capacity out.old }
-    ensures items { Appended out.old.items out.new.items (bytes_text mask.now) }
-    ensures len { vec_len out.new ≤ vec_len out.old + 72 }
-    ensures capacity { vec_capacity out.old ≤ vec_capacity out.new }
-{
-    for i in 0..36usize {
-        put_hex2(out, mask[i]);
-    }
-}
+// The masks of A and B.
+#[derive(Clone, Copy)]
+struct Masks<'a>(&'a Sides<[u8; 36]>);
 
-fn put_masks(out: &mut Vec<u8>, a: &[u8; 36], b: &[u8; 36])
-    requires { vec_len out.old + 155 ≤ vec_capacity out.old }
-    ensures items { Appended out.old.items out.new.items (masks_text a.now b.now) }
-    ensures len { vec_len out.new ≤ vec_len out.old + 155 }
-    ensures capacity { vec_capacity out.old ≤ vec_capacity out.new }
-{
-    put(out, b" mask=A:");
-    put_mask(out, a);
-    put(out, b",B:");
-    put_mask(out, b);
-}
+impl fmt::Display for Masks<'_> {
+    ghost output = { λ m. Some (masks_text m.0.now.a m.0.now.b) };
 
-// The ports of a frame, with the masks of both switches, or how the answers differ.
-fn put_peeked(out: &mut Vec<u8>, a: Answer, b: Answer, mask_a: &[u8; 36], mask_b: &[u8; 36])
-    requires { vec_len out.old + 691 ≤ vec_capacity out.old }
-    ensures items { Appended out.old.items out.new.items (peeked_text a b mask_a.now mask_b.now) }
-    ensures len { vec_len out.new ≤ vec_len out.old + 691 }
-    ensures capacity { vec_capacity out.old ≤ vec_capacity out.new }
-{
-    put_both(out, a, b);
-    if name_same(a, b) {
-        put_masks(out, mask_a, mask_b);
+    fn fmt<W: fmt::Write>(&self, f: &mut fmt::Formatter<W>) -> fmt::Result {
+        let Sides { a, b } = self.0;
+        write!(f, " mask=A:{},B:{}", Bytes(a), Bytes(b))
     }
 }
 
 // The line that answers `peek`, or nothing where there is no memory for it.
 pub fn peek_line(
-    out: &mut Vec<u8>,
+    page: &mut Page,
     place: Place,
-    a: Answer,
-    b: Answer,
-    mask_a: &[u8; 36],
-    mask_b: &[u8; 36],
+    answers: Sides<Answer>,
+    masks: &Sides<[u8; 36]>,
 ) -> Result<(), AllocError>
-    ensures { out.new.items ≡ (if is_ok result then out.old.items ++ peek_line place a b mask_a.now mask_b.now else out.old.items) }
+    ensures { page.new ≡ (if is_ok result then page.old ++ peek_line place answers.a answers.b masks.now.a masks.now.b else page.old) }
 {
-    out.reserve(LONGEST)?;
-    put_start(out, place, Verb::Peek);
-    put_peeked(out, a, b, mask_a, mask_b);
-    put(out, b"\n");
-    Ok(())
-}
-
-// A rule by its table and its id.
-fn put_rule(out: &mut Vec<u8>, table: u32, id: u32)
-    requires { vec_len out.old + 51 ≤ vec_capacity out.old }
-    ensures items { Appended out.old.items out.new.items (rule_text table id) }
-    ensures len { vec_len out.new ≤ vec_len out.old + 51 }
-    ensures capacity { vec_capacity out.old ≤ vec_capacity out.new }
-{
-    put(out, b"table=");
-    put_number(out, u64::from(table));
-    put(out, b" id=");
-    put_number(out, u64::from(id));
-    put(out, b" ");
+    let peeked = WithPorts {
+        answers: &answers,
+        more: Masks(masks),
+    };
+    page.put(format_args!("{place} peek: {peeked}\n"))
 }
 
 // The line of a standing rule in a report, or nothing where there is no memory for it.
 pub fn report_line(
-    out: &mut Vec<u8>,
+    page: &mut Page,
     place: Place,
-    table: u32,
-    id: u32,
-    a: Answer,
-    b: Answer,
+    name: RuleName,
+    answers: Sides<Answer>,
 ) -> Result<(), AllocError>
-    ensures { out.new.items ≡ (if is_ok result then out.old.items ++ report_line place table id a b else out.old.items) }
+    ensures { page.new ≡ (if is_ok result then page.old ++ report_line place name.table name.id answers.a answers.b else page.old) }
 {
-    out.reserve(LONGEST)?;
-    put_start(out, place, Verb::Report);
-    put_rule(out, table, id);
-    put_both(out, a, b);
-    put(out, b"\n");
-    Ok(())
+    let RuleName { table, id } = name;
+    page.put(format_args!("{place} report: table={table} id={id} {}\n", Both(&answers)))
 }
 
 // What one switch has counted.
-fn put_sums(out: &mut Vec<u8>, sums: Sums)
-    requires { vec_len out.old + 112 ≤ vec_capacity out.old }
-    ensures items { Appended out.old.items out.new.items (sums_text sums) }
-    ensures len { vec_len out.new ≤ vec_len out.old + 112 }
-    ensures capacity { vec_capacity out.old ≤ vec_capacity out.new }
-{
-    put(out, b" frames=");
-    put_number(out, sums.frames);
-    put(out, b" depth1=");
-    put_number(out, sums.depth1);
-    put(out, b" depth2=");
-    put_number(out, sums.depth2);
-    put(out, b" deeper=");
-    put_number(out, sums.deeper);
+#[derive(Clone, Copy)]
+struct Counted(Totals);
+
+impl fmt::Display for Counted {
+    ghost output = { λ s. Some (counted_text s.0) };
+
+    #[tactic(auto, unfolding(crate::specs::Answers::counted_text))]
+    fn fmt<W: fmt::Write>(&self, f: &mut fmt::Formatter<W>) -> fmt::Result {
+        let Counted(
+            Totals {
+                frames,
+                depth1,
+                depth2,
+                deeper,
+            },
+        ) = *self;
+        write!(
+            f,
+            " frames={frames} depth1={depth1} depth2={depth2} deeper={deeper}"
+        )
+    }
 }
 
 // The line that answers `totals`, or nothing where there is no memory for it.
-pub fn totals_line(out: &mut Vec<u8>, place: Place, a: Sums, b: Sums) -> Result<(), AllocError>
-    ensures { out.new.items ≡ (if is_ok result then out.old.items ++ totals_line place a b else out.old.items) }
+pub fn totals_line(page: &mut Page, place: Place, totals: Sides<Totals>) -> Result<(), AllocError>
+    ensures { page.new ≡ (if is_ok result then page.old ++ totals_line place totals.a totals.b else page.old) }
 {
-    out.reserve(LONGEST)?;
-    put_start(out, place, Verb::Totals);
-    put(out, b"A");
-    put_sums(out, a);
-    put(out, b"; B");
-    put_sums(out, b);
-    put(out, b"\n");
-    Ok(())
+    let Sides { a, b } = totals;
+    page.put(format_args!("{place} totals: A{}; B{}\n", Counted(a), Counted(b)))
 }

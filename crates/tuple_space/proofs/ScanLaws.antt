@@ -1,23 +1,33 @@
 -- The steps of searches through tuples.
-use Rattle.std.proofs.Common.{◌≡◌, ℕ, ◌+◌, ◌<◌, ◌≤◌, Bool, false, cond, ◌||◌, ltb, List, [], ◌∷◌, length, get_or, take, drop, Decides, sym, refl, ap, ◌∙◌, subst, ⊎_elim, arith}
-use Rattle.std.specs.List.{insert, AllByRecursion}
+use Rattle.std.proofs.Common.{◌≡◌, ℕ, ◌+◌, ◌<◌, ◌≤◌, Bool, false, cond, ◌||◌, ltb, List, [], ◌∷◌, length, get_or, drop, Some, None, Option, MatchOption, Decides, sym, refl, ap, ◌∙◌, ⊎_elim, arith}
+use Rattle.std.specs.List.{insert, position, AllByRecursion}
+use Rattle.std.specs.Option.{unwrap_or}
+use Rattle.flow.proofs.Firsts.{none_passes, first_passes}
 use Rattle.std.specs.Str.{bytes_eq}
-use Rattle.std.proofs.lemmas.List.{get_or_default, at_drop_more, at_drop_all, take_all}
-use Rattle.std.proofs.ByRecursion.{All-weaker}
-use Rattle.std.proofs.lemmas.Bool.{lt-ltb, le-ltb, both_ways, cases_Bool}
+use Rattle.std.proofs.lemmas.List.{at_drop_more, at_drop_all}
+use Rattle.std.proofs.lemmas.Bool.Decides.{nat_tests}
+use Rattle.std.proofs.lemmas.Bool.{both_ways, cases_Bool}
 use Rattle.std.proofs.lemmas.Slice.Eq.{bytes_eq-Decides}
 use Rattle.classifier.specs.Inserts.{put, inserted_put, inserted_last}
 use Rattle.tuple_space.specs.declared.ranked_mask.RankedMask.{RankedMask}
-use Rattle.tuple_space.specs.Tuples.{listed}
+use Rattle.tuple_space.specs.Tuples.{larger, listed}
 use Rattle.tuple_space.specs.Visits.{placed, ordered}
 
-pub listed_next : (ts : List RankedMask) (i : ℕ) (m : List ℕ) (d : RankedMask) → i < length ts → bytes_eq (get_or ts i d).mask m ≡ false → listed ts m ≡ listed (drop i ts) m → listed ts m ≡ listed (drop (i + 1) ts) m
+-- where the tuple of a mask stands, or that there is none
+pub place_from : (ts : List RankedMask) (m : List ℕ) (o : Option ℕ) → position (λ t. bytes_eq t.mask m) ts ≡ o → MatchOption o (listed ts m ≡ false) (λ j. (j < length ts) × ((d : RankedMask) → (get_or ts j d).mask ≡ m))
 unfolding listed
-listed_next ts i m d h ne e = e ∙ at_drop_more (λ us. listed us m) ts i d h ∙ ap (λ b. b || listed (drop (i + 1) ts) m) ne
+place_from ts m None e = none ts (none_passes (λ t. bytes_eq t.mask m) ts e)
+  where
+    none : (us : List RankedMask) → AllByRecursion (λ t. bytes_eq t.mask m ≡ false) us → listed us m ≡ false
+    none [] h = refl
+    none (u ∷ us) h = ap (λ b. b || listed us m) h.0 ∙ none us h.1
+place_from ts m (Some j) e =
+    let f = first_passes (λ t. bytes_eq t.mask m) ts j (record { mask = []; rank = 0 }) e in
+    (f.within, λ d. (bytes_eq-Decides (get_or ts j d).mask m).0 (f.passes d))
 
-pub listed_none : (ts : List RankedMask) (i : ℕ) (m : List ℕ) → length ts ≤ i → listed ts m ≡ listed (drop i ts) m → listed ts m ≡ false
-unfolding listed
-listed_none ts i m h e = e ∙ at_drop_all (λ us. listed us m) ts i h
+-- the larger of two numbers is their maximum
+pub max_larger : (a b : ℕ) → Prim.Native.Nat.max a b ≡ larger b a
+max_larger a b = grind (arith, nat_tests)
 
 -- the order of visits is one by a test
 abbrev ahead : RankedMask → RankedMask → Bool
@@ -28,21 +38,17 @@ unfolding placed
 placed_put [] t = refl
 placed_put (u ∷ us) t = ap (λ ys. cond (ltb u.rank t.rank) (t ∷ u ∷ us) (u ∷ ys)) (placed_put us t)
 
-pub inserted_placed : (us : List RankedMask) (i n : ℕ) (d : RankedMask) → i < length us → AllByRecursion (λ u. n ≤ u.rank) (take i us) → (get_or us i d).rank < n → (t : RankedMask) → t.rank ≡ n → insert us i t ≡ placed us t
-inserted_placed us i n d l h a t e =
-    inserted_put ahead us i t l (All-weaker (λ u. n ≤ u.rank) (λ u. ahead t u ≡ false) (λ u p. le-ltb u.rank t.rank (low u p)) (take i us) h)
-    (λ f. lt-ltb (get_or us i f).rank t.rank (subst (λ u. u.rank < t.rank) (get_or_default us i d f l) (subst (λ x. (get_or us i d).rank < x) (sym e) a)))
-    ∙ sym (placed_put us t)
-  where
-    low : (u : RankedMask) → n ≤ u.rank → t.rank ≤ u.rank
-    low u p = omega arith
+-- before the first of lower rank, or at the end
+pub inserted_placed : (us : List RankedMask) (t : RankedMask) (o : Option ℕ) → position (λ u. ltb u.rank t.rank) us ≡ o → insert us (unwrap_or o (length us)) t ≡ placed us t
+inserted_placed us t None e = inserted_last ahead us t (none_passes (λ u. ltb u.rank t.rank) us e) ∙ sym (placed_put us t)
+inserted_placed us t (Some i) e =
+    let f = first_passes (λ u. ltb u.rank t.rank) us i t e in
+    inserted_put ahead us i t f.within f.before f.passes ∙ sym (placed_put us t)
 
-pub inserted_placed_last : (us : List RankedMask) (i n : ℕ) → length us ≤ i → AllByRecursion (λ u. n ≤ u.rank) (take i us) → (t : RankedMask) → t.rank ≡ n → insert us (length us) t ≡ placed us t
-inserted_placed_last us i n l h t e =
-    inserted_last ahead us t (All-weaker (λ u. n ≤ u.rank) (λ u. ahead t u ≡ false) (λ u p. le-ltb u.rank t.rank (low u p)) us (subst (AllByRecursion (λ u. n ≤ u.rank)) (take_all i us l) h)) ∙ sym (placed_put us t)
-  where
-    low : (u : RankedMask) → n ≤ u.rank → t.rank ≤ u.rank
-    low u p = omega arith
+-- that place is none behind the end
+pub placed_within : (us : List RankedMask) (t : RankedMask) (o : Option ℕ) → position (λ u. ltb u.rank t.rank) us ≡ o → unwrap_or o (length us) ≤ length us
+placed_within us t None e = omega arith
+placed_within us t (Some i) e = omega (arith, (first_passes (λ u. ltb u.rank t.rank) us i t e).within)
 
 pub not_same : (xs ys : List ℕ) (r : Bool) → Decides r (xs ≡ ys) → r ≡ false → bytes_eq xs ys ≡ false
 not_same xs ys r d f = ⊎_elim (λ t. absurd (both_ways r f (d.1 ((bytes_eq-Decides xs ys).0 t)))) (λ t. t) (cases_Bool (bytes_eq xs ys))

@@ -16,12 +16,12 @@ use Rattle.tuple_space.proofs.ChangeLaws.{tuples_went, arrivals_went}
 
 -- the tuples are those of the rules
 pub tuples_held : (s : TupleSpace) → TuplesOf (rules_of s) (vec_items s.masks.arrived)
-tuples_held s = record { masks = s.covered; ranks = s.ranks; once = s.once }
+tuples_held s = record { masks = s.covered; ranks = s.ranks; once = s.masks.once }
 
 -- there are at most as many as rules
 pub few_held : (s : TupleSpace) → length (vec_items s.masks.arrived) ≤ length (rules_of s)
 few_held s =
-    few_tuples (rules_of s) (vec_items s.masks.arrived) s.once (each_worn_tuple (rules_of s) (vec_items s.masks.arrived) (tuples_held s))
+    few_tuples (rules_of s) (vec_items s.masks.arrived) s.masks.once (each_worn_tuple (rules_of s) (vec_items s.masks.arrived) (tuples_held s))
 
 pub few_all : (s : TupleSpace) → length (vec_items s.masks.arrived) ≤ 64
 few_all s = let f = few_held s in let l = (lawful_kept s.rules.store).few in omega (arith, f, l)

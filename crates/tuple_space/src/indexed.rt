@@ -2,14 +2,13 @@
 ghost use Rattle.std.specs.Prelude.{◌≡◌, [], IfOk, Some, None, MatchResult};
 ghost use Rattle.classifier.specs.Faults.{refusal_of};
 ghost use Rattle.classifier.specs.Kept.{kept, standing_rules};
-ghost use Rattle.classifier.specs.Rules.{new_rule};
+ghost use Rattle.classifier.specs.Rules.{fresh};
 ghost use Rattle.classifier.specs.Tables.{add_refusal, added, missing_refusal, removed, credited, count_of, of_id};
 ghost use Rattle.tuple_space.specs.Indexes.{IndexedRules};
 ghost use Rattle.tuple_space.specs.Visits.{searched};
 
 use crate::scan;
-use classifier::{ClassifierFault, Found, Rule, Store};
-use flow::MaskedKey;
+use classifier::{ClassifierFault, Found, NewRule, Rule, Store};
 use search::{ByteSum, Index, Tuple};
 use std::alloc::{AllocError, Global};
 
@@ -46,17 +45,10 @@ impl IndexedStore {
     }
 
     // One rule more, with count 0.
-    pub fn add(
-        &mut self,
-        id: u32,
-        priority: u16,
-        key: &MaskedKey,
-        ports: u64,
-        next: u16,
-    ) -> Result<(), ClassifierFault>
-        ensures { MatchResult result (λ _. (add_refusal (standing_rules self.old.store) (new_rule id priority key.now.mask key.now.value ports next) ≡ None) × (standing_rules self.new.store ≡ added (standing_rules self.old.store) (new_rule id priority key.now.mask key.now.value ports next))) (λ e. (add_refusal (standing_rules self.old.store) (new_rule id priority key.now.mask key.now.value ports next) ≡ Some (refusal_of e)) × (standing_rules self.new.store ≡ standing_rules self.old.store)) }
+    pub fn add(&mut self, new: &NewRule) -> Result<(), ClassifierFault>
+        ensures { MatchResult result (λ _. (add_refusal (standing_rules self.old.store) (fresh new.now) ≡ None) × (standing_rules self.new.store ≡ added (standing_rules self.old.store) (fresh new.now))) (λ e. (add_refusal (standing_rules self.old.store) (fresh new.now) ≡ Some (refusal_of e)) × (standing_rules self.new.store ≡ standing_rules self.old.store)) }
     {
-        self.store.add(id, priority, key, ports, next)?;
+        self.store.add(new)?;
         self.index = index_of(&self.store);
         Ok(())
     }

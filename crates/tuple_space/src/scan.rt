@@ -5,26 +5,18 @@ ghost use Rattle.tuple_space.specs.Changes.{rank_left};
 ghost use Rattle.tuple_space.specs.Indexes.{IndexedRules};
 ghost use Rattle.tuple_space.specs.Visits.{topmost};
 
-use crate::masks::larger;
 use classifier::Rule;
 use search::{ByteSum, Index};
-
-// Whether the rule has the mask.
-fn has_mask(rule: &Rule, mask: &[u8; 36]) -> bool
-    ensures { result ≡ bytes_eq rule.now.mask mask.now }
-{
-    rule.mask == *mask
-}
 
 // The higher of the priority so far and that of the rule, if it has the mask.
 fn raised(top: Option<u16>, rule: &Rule, mask: &[u8; 36]) -> Option<u16>
     ensures { result ≡ (if bytes_eq rule.now.mask mask.now then topmost top (Some rule.now.priority) else top) }
 {
-    if !has_mask(rule, mask) {
+    if rule.mask != *mask {
         return top;
     }
     match top {
-        Some(old) => Some(larger(old, rule.priority)),
+        Some(old) => Some(old.max(rule.priority)),
         None => Some(rule.priority),
     }
 }

@@ -1,5 +1,6 @@
 // Frames at the limits of length, too long for a table.
 use packet::Reader;
+use refusal::Refusal;
 
 // A frame of zeros of a length: whether it is read.
 fn show_one(rt: &HostRuntime, len: usize) -> anyhow::Result<()> {
@@ -7,8 +8,7 @@ fn show_one(rt: &HostRuntime, len: usize) -> anyhow::Result<()> {
     match Reader::open(1, frame.as_slice()) {
         Ok(_) => println!(rt; "{len} bytes: read")?,
         Err(fault) => {
-            let number = fault.number();
-            let detail = fault.detail();
+            let Refusal { number, detail } = Refusal::from(fault);
             println!(rt; "{len} bytes: refused by {number}, detail {detail}")?;
         }
     }

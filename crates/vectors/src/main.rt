@@ -5,6 +5,7 @@ mod fields;
 mod limits;
 mod text;
 
+use fields::Line;
 use packet::Reader;
 use std::io::{BufRead, BufReader};
 
@@ -17,22 +18,23 @@ struct Tally {
 }
 
 // One frame of the table: its in-port, its bytes in hex, and what is to be read.
-fn agrees(rt: &HostRuntime, line: u64, words: &[&str]) -> anyhow::Result<bool> {
+fn agrees(line: Line<'_>, words: &[&str]) -> anyhow::Result<bool> {
+    let Line { rt, number } = line;
     let [port_word, hex, said @ ..] = words else {
-        println!(rt; "line {line}: an in-port and a frame are missing")?;
+        println!(rt; "line {number}: an in-port and a frame are missing")?;
         return Ok(false);
     };
     let Ok(port) = port_word.parse::<u16>() else {
-        println!(rt; "line {line}: {port_word} is no in-port")?;
+        println!(rt; "line {number}: {port_word} is no in-port")?;
         return Ok(false);
     };
     let Some(frame) = text::hex_bytes(rt.alloc(), hex)? else {
-        println!(rt; "line {line}: the frame is not in hex")?;
+        println!(rt; "line {number}: the frame is not in hex")?;
         return Ok(false);
     };
     match Reader::open(port, frame.as_slice()) {
-        Ok(reader) => fields::same_fields(rt, line, port_word, &reader, said),
-        Err(fault) => fields::same_refusal(rt, line, &fault, said),
+        Ok(reader) => line.same_fields(port_word, &reader, said),
+        Err(fault) => line.same_refusal(fault, said),
     }
 }
 
@@ -43,7 +45,7 @@ fn take_line(rt: &HostRuntime, tally: Tally, text: &str) -> anyhow::Result<Tally
         return Ok(Tally { lines, ..tally });
     }
     let words = text.split_whitespace().collect::<Vec<&str>>(rt.alloc())?;
-    let agree = agrees(rt, lines, words.as_slice())?;
+    let agree = agrees(Line { rt, number: lines }, words.as_slice())?;
     Ok(Tally {
         lines,
         frames: tally.frames.wrapping_add(1),

@@ -5,12 +5,11 @@ ghost use Rattle.classifier.specs.Rules.{found, FindMask};
 ghost use Rattle.classifier.specs.Stores.{linear_mask};
 ghost use Rattle.classifier.specs.KeptLaws.{lawful_kept};
 
-use super::{Linear, look};
+use super::Linear;
 use crate::classifier::Classifier;
 use crate::fault::ClassifierFault;
-use crate::rule::Find;
+use crate::rule::{Find, NewRule};
 use crate::store::Store;
-use flow::MaskedKey;
 use std::alloc::{AllocError, Global};
 
 impl Classifier for Linear {
@@ -27,19 +26,12 @@ impl Classifier for Linear {
         Ok(Linear { store })
     }
 
-    fn add(
-        &mut self,
-        id: u32,
-        priority: u16,
-        key: &MaskedKey,
-        ports: u64,
-        next: u16,
-    ) -> Result<(), ClassifierFault> {
-        self.store.add(id, priority, key, ports, next)
+    fn add(&mut self, new: &NewRule) -> Result<(), ClassifierFault> {
+        self.store.add(new)
     }
 
     fn remove(&mut self, id: u32) -> Result<(), ClassifierFault> {
-        let _ = self.store.remove(id)?;
+        self.store.remove(id)?;
         Ok(())
     }
 
@@ -49,7 +41,16 @@ impl Classifier for Linear {
         ensures mask { FindMask (standing_rules self.now.store) key.now result.mask }
         ensures given { result.mask ≡ linear_mask (standing_rules self.now.store) key.now }
     {
-        look::look(self.store.rules(), key)
+        let mut mask = flow::empty_mask();
+        for rule in self.store.rules() {
+            if rule.look(key, &mut mask) {
+                return Find {
+                    rule: Some(rule.name()),
+                    mask,
+                };
+            }
+        }
+        Find { rule: None, mask }
     }
 
     fn credit(&mut self, id: u32, n: u64) {

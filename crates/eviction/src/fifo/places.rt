@@ -1,19 +1,13 @@
 // Places in the order of the slots.
-ghost use Rattle.std.specs.Prelude.{◌≡◌, true, false, vec_capacity, MatchOption};
-ghost use Rattle.eviction.specs.Orders.{orderly, left_out};
-ghost use Rattle.eviction.specs.Places.{Placed, Left, FirstOf};
+ghost use Rattle.std.specs.Prelude.{◌≡◌, ◌==◌, true, position, vec_capacity};
+ghost use Rattle.eviction.specs.Orders.{orderly};
+ghost use Rattle.eviction.specs.Places.{Left, FirstOf};
 
 // The place of the slot.
 fn place_of(order: &[u8], slot: u8) -> Option<usize>
-    requires { orderly order.now ≡ true }
-    ensures { MatchOption result (left_out order.now slot ≡ order.now) (λ p. Placed order.now slot p) }
+    ensures { result ≡ position (λ s. s == slot) order.now }
 {
-    for (i, other) in order.iter().enumerate() {
-        if *other == slot {
-            return Some(i);
-        }
-    }
-    None
+    order.iter().position(|other| *other == slot)
 }
 
 // The slot leaves the order.

@@ -1,7 +1,7 @@
 // What a tuple-space classifier does.
 ghost use Rattle.std.specs.Prelude.{◌≡◌, [], IfOk, Some, None, MatchResult};
 ghost use Rattle.classifier.specs.Faults.{refusal_of};
-ghost use Rattle.classifier.specs.Rules.{new_rule, found, FindMask};
+ghost use Rattle.classifier.specs.Rules.{fresh, found, FindMask};
 ghost use Rattle.classifier.specs.Tables.{add_refusal, added, missing_refusal, removed, credited};
 ghost use Rattle.tuple_space.specs.Arrivals.{rules_of, arrivals};
 ghost use Rattle.tuple_space.specs.Tuples.{arrived, left_after};
@@ -11,9 +11,8 @@ ghost use Rattle.classifier.specs.KeptLaws.{lawful_kept};
 use super::TupleSpace;
 use crate::indexed::IndexedStore;
 use crate::masks::Masks;
-use crate::{masks, scan, visit};
-use classifier::{Classifier, ClassifierFault, Find};
-use flow::MaskedKey;
+use crate::{scan, visit};
+use classifier::{Classifier, ClassifierFault, Find, NewRule};
 use std::alloc::{AllocError, Global};
 
 impl Classifier for TupleSpace {
@@ -40,24 +39,16 @@ impl Classifier for TupleSpace {
         ensures mask { FindMask (rules_of self.now) key.now result.mask }
         ensures given { result.mask ≡ tuple_mask (arrivals self.now) (rules_of self.now) key.now }
     {
-        visit::visit(&self.rules, &self.masks.visits, key)
+        visit::visit(&self.rules, self.masks.visits(), key)
     }
 
     // A new mask comes to stand last.
-    fn add(
-        &mut self,
-        id: u32,
-        priority: u16,
-        key: &MaskedKey,
-        ports: u64,
-        next: u16,
-    ) -> Result<(), ClassifierFault>
-        ensures cases { MatchResult result (λ _. (add_refusal (rules_of self.old) (new_rule id priority key.now.mask key.now.value ports next) ≡ None) × (rules_of self.new ≡ added (rules_of self.old) (new_rule id priority key.now.mask key.now.value ports next))) (λ e. (add_refusal (rules_of self.old) (new_rule id priority key.now.mask key.now.value ports next) ≡ Some (refusal_of e)) × (rules_of self.new ≡ rules_of self.old)) }
-        ensures masks { MatchResult result (λ _. arrivals self.new ≡ arrived (arrivals self.old) (rules_of self.old) key.now.mask) (λ e. arrivals self.new ≡ arrivals self.old) }
+    fn add(&mut self, new: &NewRule) -> Result<(), ClassifierFault>
+        ensures cases { MatchResult result (λ _. (add_refusal (rules_of self.old) (fresh new.now) ≡ None) × (rules_of self.new ≡ added (rules_of self.old) (fresh new.now))) (λ e. (add_refusal (rules_of self.old) (fresh new.now) ≡ Some (refusal_of e)) × (rules_of self.new ≡ rules_of self.old)) }
+        ensures masks { MatchResult result (λ _. arrivals self.new ≡ arrived (arrivals self.old) (rules_of self.old) new.now.key.mask) (λ e. arrivals self.new ≡ arrivals self.old) }
     {
-        self.rules.add(id, priority, key, ports, next)?;
-        masks::came(&mut self.masks.arrived, key.mask(), priority);
-        self.masks.order();
+        self.rules.add(new)?;
+        self.masks.came(new.key.mask(), new.priority);
         Ok(())
     }
 
@@ -68,8 +59,7 @@ impl Classifier for TupleSpace {
     {
         let rule = self.rules.remove(id)?;
         let rank = scan::rank_left(self.rules.rules(), &rule.mask);
-        masks::went(&mut self.masks.arrived, &rule.mask, rank);
-        self.masks.order();
+        self.masks.went(&rule.mask, rank);
         Ok(())
     }
 

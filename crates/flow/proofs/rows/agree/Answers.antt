@@ -1,21 +1,15 @@
-use Rattle.std.proofs.Common.{get_or}
-use lib.Bits.{bit_and}
+use Rattle.std.proofs.Common.{eqb, length, Decides, sym, ap, ◌∙◌, subst}
 use Rattle.std.proofs.lemmas.Bool.Decides.{same_from_decides}
-use Rattle.flow.proofs.MaskLaws.{agreeing_decides}
-use Rattle.flow.proofs.Places.{gathered_more, gathered_all, agree_by_places}
+use Rattle.flow.specs.Masks.{Covers}
+use Rattle.flow.proofs.MaskLaws.{agreeing_decides, length_masked}
+use Rattle.flow.proofs.Places.{covers_gathered}
 use Rattle.flow.proofs.rows.agree.Goals as goal
-
-pub loop-i-preserved : goal.loop-i-preserved
-loop-i-preserved c =
-    let m = c.args.mask.now in
-    let a = c.args.a.now in
-    let b = c.args.b.now in
-    gathered_more (λ i. bit_and (get_or m i 0) (get_or a i 0)) (λ i. bit_and (get_or m i 0) (get_or b i 0)) _ _ c.loop-i-test.true c.loop-i.invariant
 
 pub returns : goal.returns
 returns c =
     let m = c.args.mask.now in
     let a = c.args.a.now in
     let b = c.args.b.now in
-    let d = agree_by_places m a b _ c.told-mask c.told-a c.told-b (gathered_all (λ i. bit_and (get_or m i 0) (get_or a i 0)) (λ i. bit_and (get_or m i 0) (get_or b i 0)) _ _ c.loop-i-test.false c.loop-i.invariant) in
+    let long = ap length c.masked.ensures ∙ length_masked 36 m b c.told-mask c.told-b in
+    let d = subst (λ v. Decides (eqb c.differing.result 0) (Covers m v a)) c.masked.ensures (covers_gathered m c.masked.result a _ (c.told-mask ∙ sym long) (long ∙ sym c.told-a) c.differing.ensures) in
     record { test = same_from_decides _ _ d (agreeing_decides m a b); means = d }

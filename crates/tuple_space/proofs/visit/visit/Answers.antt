@@ -29,7 +29,7 @@ returns-then-not-may_beat c =
     let ts = c.args.tuples.now in
     let i = c.loop-tuple.tuple-index in
     record {
-      rule = c.identity.ensures ∙ ap (option_map (λ f. f.rule)) (outcome_stop (λ f. f.priority) (searched rs k) ts i c.loop-tuple.top _ _ c.loop-tuple-test.true c.if-not-may_beat.ensures c.loop-tuple.invariant.1);
+      rule = (search rules) ∙ ap (option_map (λ f. f.rule)) (outcome_stop (λ f. f.priority) (searched rs k) ts i c.loop-tuple.top _ _ c.loop-tuple-test.true c.if-not-may_beat.ensures c.loop-tuple.invariant.1);
       mask = visited_stop rs k ts i (option_map (λ f. f.priority) c.loop-tuple.top) c.loop-tuple.mask _ _ c.loop-tuple-test.true c.if-not-may_beat.ensures c.loop-tuple.invariant.0 c.loop-tuple.invariant.2;
     }
 
@@ -40,6 +40,6 @@ returns c =
     let ts = c.args.tuples.now in
     let i = c.loop-tuple.tuple-index in
     record {
-      rule = c.identity-2.ensures ∙ ap (option_map (λ f. f.rule)) (outcome_end (λ f. f.priority) (searched rs k) ts i c.loop-tuple.top _ c.loop-tuple-test.false c.loop-tuple.invariant.1);
+      rule = (search rules) ∙ ap (option_map (λ f. f.rule)) (outcome_end (λ f. f.priority) (searched rs k) ts i c.loop-tuple.top _ c.loop-tuple-test.false c.loop-tuple.invariant.1);
       mask = visited_end rs k ts i (option_map (λ f. f.priority) c.loop-tuple.top) c.loop-tuple.mask _ c.loop-tuple-test.false c.loop-tuple.invariant.0 c.loop-tuple.invariant.2;
     }

@@ -17,13 +17,15 @@ empty_forward : Forward 0 no_rules
 unfolding Forward
 empty_forward = (tt, (tt, (tt, (tt, tt))))
 
-pub returns : goal.returns
-returns g c =
+pub invariant_of-result : goal.invariant_of-result
+invariant_of-result g c =
     let f = g.C.Classifier.rules in
     let xs = vec_items c.loop.classifiers in
     let end : c.loop.counter ≡ 4 = omega (arith, c.loop-test.false, c.loop.auto.counter-end) in
     let none : map f xs ≡ no_rules = c.loop.invariant ∙ ap (λ n. replicate n []) end in
-    record {
-      empty = none;
-      sound = (sym (length-map xs f) ∙ ap length none, subst (Forward 0) (sym none) empty_forward);
-    }
+    record { four = sym (length-map xs f) ∙ ap length none; forward = subst (Forward 0) (sym none) empty_forward }
+
+pub returns : goal.returns
+returns g c =
+    let end : c.loop.counter ≡ 4 = omega (arith, c.loop-test.false, c.loop.auto.counter-end) in
+    c.loop.invariant ∙ ap (λ n. replicate n []) end

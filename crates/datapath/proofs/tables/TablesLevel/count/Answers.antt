@@ -11,7 +11,7 @@ pub returns-in_err-t : goal.returns-in_err-t
 returns-in_err-t g c =
     let p = err_from_is_err_and c.from_residual.result c.from_residual.ensures.1 in
     let ts = map g.C.Classifier.rules (vec_items c.args.self.now.classifiers) in
-    record { kept = c.requires; same = refl; value = rw (p.1, p.2) (missing_table ts c.args.table c.args.id _ c.in_err-t.ensures) }
+    record { same = refl; value = rw (p.1, p.2) (missing_table ts c.args.name.table c.args.name.id _ c.in_err-t.ensures) }
 
 pub returns-in_err-count : goal.returns-in_err-count
 returns-in_err-count g c =
@@ -21,14 +21,13 @@ returns-in_err-count g c =
     let ts = map f xs in
     let t = c.in_ok-t.t in
     let at = c.in_ok-t.ensures in
-    let lt : t < length xs = omega (arith, at.2, c.requires.0) in
+    let lt : t < length xs = omega (arith, at.2, c.args.self.now.four) in
     let here : table_of ts t ≡ f c.index.result.now = get_or-map f xs t c.index.result.now [] lt ∙ ap f (sym c.index.ensures) in
     record {
-      kept = c.requires;
       same = refl;
       value =
           rw (p.1, p.2)
-          (missing_within ts c.args.table c.args.id _ at.0 (ap (λ u. missing_refusal (table_of ts u) c.args.id) (sym at.1) ∙ ap (λ rs. missing_refusal rs c.args.id) here ∙ c.in_err-count.ensures));
+          (missing_within ts c.args.name.table c.args.name.id _ at.0 (ap (λ u. missing_refusal (table_of ts u) c.args.name.id) (sym at.1) ∙ ap (λ rs. missing_refusal rs c.args.name.id) here ∙ c.in_err-count.ensures));
     }
 
 pub returns : goal.returns
@@ -39,15 +38,14 @@ returns g c =
     let ts = map f xs in
     let t = c.in_ok-t.t in
     let at = c.in_ok-t.ensures in
-    let lt : t < length xs = omega (arith, at.2, c.requires.0) in
+    let lt : t < length xs = omega (arith, at.2, c.args.self.now.four) in
     let here : table_of ts t ≡ f c.index.result.now = get_or-map f xs t c.index.result.now [] lt ∙ ap f (sym c.index.ensures) in
     let e = c.in_ok-count.ensures in
-    let i = c.args.id in
+    let i = c.args.name.id in
     record {
-      kept = c.requires;
       same = refl;
       value = (
-        missing_within ts c.args.table i _ at.0 (ap (λ u. missing_refusal (table_of ts u) i) (sym at.1) ∙ ap (λ rs. missing_refusal rs i) here ∙ e.0),
+        missing_within ts c.args.name.table i _ at.0 (ap (λ u. missing_refusal (table_of ts u) i) (sym at.1) ∙ ap (λ rs. missing_refusal rs i) here ∙ e.0),
         e.1 ∙ ap (λ rs. count_of rs i) (sym here) ∙ ap (λ u. count_of (table_of ts u) i) at.1,
       );
     }

@@ -1,22 +1,16 @@
-use Rattle.std.proofs.Common.{vec_items, sym, ap, ◌∙◌, rules}
-use Rattle.std.specs.List.{remove}
-use Rattle.eviction.specs.Orders.{left_out}
-use Rattle.eviction.specs.OrderLaws.{left_from}
+use Rattle.std.proofs.Common.{◌≡◌, eqb, vec_items, Some, None, rules}
+use Rattle.std.specs.List.{position}
+use Rattle.eviction.specs.OrderLaws.{left_at, left_none}
 use Rattle.eviction.proofs.fifo.places.leave.Goals as goal
 
-pub returns-in-Some : goal.returns-in-Some
-returns-in-Some c =
+pub returns-in-Some-clause-order : goal.returns-in-Some-clause-order
+returns-in-Some-clause-order c =
     let xs = vec_items c.args.order.now in
-    let e = c.deref.ensures.value in
-    let p = c.in-Some.ensures in
-    record {
-      order = left_from xs (vec_items c.remove.new.self) c.args.slot c.requires
-          (c.remove.ensures.items ∙ ap (λ ys. remove ys c.in-Some.place) (sym e) ∙ p.taken ∙ ap (λ ys. left_out ys c.args.slot) e);
-      capacity = search rules;
-    }
+    let e : position (λ x. eqb x c.args.slot) xs ≡ Some c.in-Some.place = search rules in
+    left_at xs (vec_items c.remove.new.self) c.args.slot c.in-Some.place c.requires e c.remove.ensures.items
 
-pub returns-in_default : goal.returns-in_default
-returns-in_default c =
+pub returns-in_default-clause-order : goal.returns-in_default-clause-order
+returns-in_default-clause-order c =
     let xs = vec_items c.args.order.now in
-    let e = c.deref.ensures.value in
-    record { order = left_from xs xs c.args.slot c.requires (sym e ∙ sym c.in_default.ensures ∙ ap (λ ys. left_out ys c.args.slot) e); capacity = search rules }
+    let e : position (λ x. eqb x c.args.slot) xs ≡ None = search rules in
+    left_none xs c.args.slot c.requires e

@@ -14,7 +14,7 @@ best_of-requires g c =
     let bs = c.args.self.now.index.now.buckets in
     let hash = g.H.KeyHash.hash in
     subst (λ z. Below z (length xs)) (sym c.slots_of.ensures)
-    (marked_within hash m.may m.masks m.values c.args.mask.now c.args.key.now xs bs c.requires (hash (masked c.args.mask.now c.args.key.now)))
+    (marked_within hash m.may m.masks m.values c.args.mask.now c.args.key.now xs bs c.args.self.now.indexed (hash (masked c.args.mask.now c.args.key.now)))
 
 pub returns : goal.returns
 returns g c =
@@ -24,7 +24,7 @@ returns g c =
     let p =
     c.best_of.ensures
     ∙ ap (λ z. best (λ x. m.level x.1) (marking z (covering m.masks m.values c.args.mask.now c.args.key.now)) (numbered 0 xs)) c.slots_of.ensures
-    ∙ best_indexed g.H.KeyHash.hash m.may m.masks m.values c.args.mask.now c.args.key.now xs bs c.requires m.level in
+    ∙ best_indexed g.H.KeyHash.hash m.may m.masks m.values c.args.mask.now c.args.key.now xs bs c.args.self.now.indexed m.level in
     record {
       place = p;
       element = seen_element c.best_of.result ∙ ap (option_map (λ x. x.1)) p

@@ -10,4 +10,4 @@ invariant_of-self c =
     let s = c.args.self.now in
     let arrivals = vec_items s.masks.arrived in
     let t = subst (λ rs. TuplesOf rs arrivals) (sym c.credit.ensures) (tuples_credited (rules_of s) c.args.id c.args.n arrivals (tuples_held s)) in
-    record { room = s.room; seats = s.seats; covered = t.masks; ranks = t.ranks; once = t.once; sorted = s.sorted }
+    record { covered = t.masks; ranks = t.ranks }
