@@ -1,11 +1,11 @@
 -- The ports of a set, from one to the next.
-use Rattle.std.proofs.Common.{◌≡◌, ℕ, zero, suc, ◌+◌, ◌-◌, ◌/◌, ◌%◌, ◌^◌, ◌<◌, ◌≤◌, cond, Bool, true, false, [], ◌++◌, codes, sym, ap, ◌∙◌, subst, append-nil, append_assoc, arith, eq-eqb, ne_eqb, inl, inr, ◌⊎◌}
+use Rattle.std.proofs.Common.{◌≡◌, ℕ, zero, suc, ◌+◌, ◌-◌, ◌/◌, ◌%◌, ◌^◌, ◌<◌, ◌≤◌, cond, Bool, true, false, List, [], ◌++◌, codes, sym, ap, ◌∙◌, subst, append-nil, append_assoc, arith, eq-eqb, ne_eqb, inl, inr, ◌⊎◌}
 use Rattle.std.specs.Int.{trailing_zeros, w64}
 use native.Mathlib.Nat.{zero-div}
 use Rattle.std.proofs.lemmas.Bool.{cases_lt}
 use Rattle.std.proofs.lemmas.Nat.{shr-shr, shr_le}
 use Rattle.std.proofs.lemmas.Nat.Bits.{bit_at-trailing_zeros}
-use Rattle.text.specs.Texts.{decimal_text}
+use Rattle.text.specs.Texts.{Appended, decimal_text}
 use Rattle.text.specs.Answers.{none_lower, port_text, ports_below, ports_text}
 
 -- a port that is not in the set has no text
@@ -22,6 +22,10 @@ skipped set n (suc k) h =
     ∙ sym (append-nil (ports_below set (n + k)))
     ∙ ap (λ t. ports_below set (n + k) ++ t) (sym (no_port set (n + k) (h k (omega arith))))
     ∙ ap (ports_below set) (sym e)
+
+pub none_below : (set : ℕ) (xs : List ℕ) → Appended xs xs (ports_below set 0)
+unfolding ports_below
+none_below set xs = record { is = sym (append-nil xs) }
 
 -- the next port of a set that has one from n on
 pub record IsNext (set n p : ℕ) : Type 0 where
@@ -54,7 +58,7 @@ next_port set n f some =
     }
 
 -- the text up to the next port, with its own behind
-with_port : (set n p : ℕ) (b : Bool) → IsNext set n p → none_lower set p ≡ b → ports_below set n ++ (cond b [] (codes ",") ++ decimal_text p) ≡ ports_below set (p + 1)
+pub with_port : (set n p : ℕ) (b : Bool) → IsNext set n p → none_lower set p ≡ b → ports_below set n ++ (cond b [] (codes ",") ++ decimal_text p) ≡ ports_below set (p + 1)
 unfolding ports_below
 with_port set n p b next e =
     let one_more : suc p ≡ p + 1 = omega arith in
@@ -64,14 +68,16 @@ with_port set n p b next e =
     ∙ ap (λ t. cond t [] (codes ",") ++ decimal_text p) e))
     ∙ ap (ports_below set) one_more
 
-pub first_port : (set n p m : ℕ) → IsNext set n p → m ≡ 2 ^ p → set % m ≡ 0 → ports_below set n ++ decimal_text p ≡ ports_below set (p + 1)
-first_port set n p m next e h = with_port set n p true next (eq-eqb (set % 2 ^ p) 0 (subst (λ z. set % z ≡ 0) e h))
+-- a port without a lower one, and one behind a lower one
+pub alone : (set p m : ℕ) → m ≡ 2 ^ p → set % m ≡ 0 → decimal_text p ≡ cond (none_lower set p) [] (codes ",") ++ decimal_text p
+alone set p m e h = sym (ap (λ b. cond b [] (codes ",") ++ decimal_text p) (eq-eqb (set % 2 ^ p) 0 (subst (λ z. set % z ≡ 0) e h)))
 
-pub later_port : (set n p m : ℕ) → IsNext set n p → m ≡ 2 ^ p → (set % m ≡ 0 → ⊥) → (ports_below set n ++ codes ",") ++ decimal_text p ≡ ports_below set (p + 1)
-later_port set n p m next e h = append_assoc (ports_below set n) (codes ",") (decimal_text p) ∙ with_port set n p false next (ne_eqb (set % 2 ^ p) 0 (subst (λ z. set % z ≡ 0 → ⊥) e h))
+pub behind : (set p m : ℕ) → m ≡ 2 ^ p → (set % m ≡ 0 → ⊥) → codes "," ++ decimal_text p ≡ cond (none_lower set p) [] (codes ",") ++ decimal_text p
+behind set p m e n = sym (ap (λ b. cond b [] (codes ",") ++ decimal_text p) (ne_eqb (set % 2 ^ p) 0 (subst (λ z. set % z ≡ 0 → ⊥) e n)))
 
 -- where no port is left, the text is whole
 pub last_port : (set n : ℕ) → n ≤ 64 → (n ≡ 64) ⊎ (set / 2 ^ n ≡ 0) → (set ≡ 0 → ⊥) → ports_below set n ≡ ports_text set
+unfolding ports_text
 last_port set n l none some =
     elim none [
       | inl e ↦ ap (ports_below set) e
@@ -82,4 +88,5 @@ last_port set n l none some =
     ∙ sym (ap (λ b. cond b (codes "none") (ports_below set 64)) (ne_eqb set 0 some))
 
 pub no_ports : (set : ℕ) → set ≡ 0 → codes "none" ≡ ports_text set
+unfolding ports_text
 no_ports set e = sym (ap (λ b. cond b (codes "none") (ports_below set 64)) (eq-eqb set 0 e))

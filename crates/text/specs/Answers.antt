@@ -29,7 +29,7 @@ ports_below set zero = []
 ports_below set (suc n) = ports_below set n ++ port_text set n
 
 -- the ports of a set, or none
-abbrev pub ports_text : ℕ → List ℕ
+unfoldable pub ports_text : ℕ → List ℕ
 ports_text set = cond (set == 0) (codes "none") (ports_below set 64)
 
 -- what one switch answers: a reply or a refusal
@@ -37,13 +37,13 @@ abbrev pub Answer : Type 0
 Answer = Result Reply Refusal
 
 -- a reply
-abbrev pub reply_text : Reply → List ℕ
+unfoldable pub reply_text : Reply → List ℕ
 reply_text Done = codes "ok"
 reply_text (Count n) = codes "count=" ++ decimal_text n
 reply_text (Ports set) = codes "ports=" ++ ports_text set
 
 -- what one switch answers
-abbrev pub said_text : Answer → List ℕ
+unfoldable pub said_text : Answer → List ℕ
 said_text (Ok r) = reply_text r
 said_text (Err x) = refusal_text x.number x.detail
 
@@ -67,7 +67,7 @@ same_answer (Err x) (Ok s) = false
 same_answer (Err x) (Err y) = x.number == y.number && x.detail == y.detail
 
 -- one answer where both are the same, else both
-abbrev pub both_text : Answer → Answer → List ℕ
+unfoldable pub both_text : Answer → Answer → List ℕ
 both_text a b =
     cond (same_answer a b) (said_text a) (codes "differ A=" ++ said_text a ++ codes " B=" ++ said_text b)
 
@@ -82,15 +82,15 @@ verb_text Totals = codes "totals"
 verb_text Report = codes "report"
 
 -- a line of output: where it comes from, the call's word, and what is said
-abbrev pub start_text : Place → Verb → List ℕ
+unfoldable pub start_text : Place → Verb → List ℕ
 start_text place verb = place_text place ++ codes " " ++ verb_text verb ++ codes ": "
 
 -- the line that answers a call
-abbrev pub answer_line : Place → Verb → Answer → Answer → List ℕ
+unfoldable pub answer_line : Place → Verb → Answer → Answer → List ℕ
 answer_line place verb a b = start_text place verb ++ both_text a b ++ codes "\n"
 
 -- the line that answers a call by a word of the caller's
-abbrev pub word_line : Place → List ℕ → Answer → Answer → List ℕ
+unfoldable pub word_line : Place → List ℕ → Answer → Answer → List ℕ
 word_line place word a b = place_text place ++ codes " " ++ word ++ codes ": " ++ both_text a b ++ codes "\n"
 
 -- whether both answers name the same ports
@@ -101,7 +101,7 @@ same_ports (Ok (Ports s)) b = same_answer (Ok (Ports s)) b
 same_ports (Err x) b = false
 
 -- the depths at which A and B decided
-abbrev pub depths_text : ℕ → ℕ → List ℕ
+unfoldable pub depths_text : ℕ → ℕ → List ℕ
 depths_text a b = codes " depth=A:" ++ decimal_text a ++ codes ",B:" ++ decimal_text b
 
 -- the answers, and more behind them where both name the same ports
@@ -109,31 +109,31 @@ abbrev pub with_ports : Answer → Answer → List ℕ → List ℕ
 with_ports a b more = both_text a b ++ cond (same_ports a b) more []
 
 -- the ports, with the depths behind them, or how the answers differ
-abbrev pub forwarded_text : Answer → Answer → ℕ → ℕ → List ℕ
+unfoldable pub forwarded_text : Answer → Answer → ℕ → ℕ → List ℕ
 forwarded_text a b m n = with_ports a b (depths_text m n)
 
 -- the line that answers a frame
-abbrev pub frame_line : Place → Answer → Answer → ℕ → ℕ → List ℕ
+unfoldable pub frame_line : Place → Answer → Answer → ℕ → ℕ → List ℕ
 frame_line place a b m n = start_text place Frame ++ forwarded_text a b m n ++ codes "\n"
 
 -- the masks of A and B
-abbrev pub masks_text : List ℕ → List ℕ → List ℕ
+unfoldable pub masks_text : List ℕ → List ℕ → List ℕ
 masks_text a b = codes " mask=A:" ++ bytes_text a ++ codes ",B:" ++ bytes_text b
 
 -- the ports, with the masks behind them, or how the answers differ
-abbrev pub peeked_text : Answer → Answer → List ℕ → List ℕ → List ℕ
+unfoldable pub peeked_text : Answer → Answer → List ℕ → List ℕ → List ℕ
 peeked_text a b m n = with_ports a b (masks_text m n)
 
 -- the line that answers `peek`
-abbrev pub peek_line : Place → Answer → Answer → List ℕ → List ℕ → List ℕ
+unfoldable pub peek_line : Place → Answer → Answer → List ℕ → List ℕ → List ℕ
 peek_line place a b m n = start_text place Peek ++ peeked_text a b m n ++ codes "\n"
 
 -- a rule by its table and its id
-abbrev pub rule_text : ℕ → ℕ → List ℕ
+unfoldable pub rule_text : ℕ → ℕ → List ℕ
 rule_text table id = codes "table=" ++ decimal_text table ++ codes " id=" ++ decimal_text id ++ codes " "
 
 -- the line of a standing rule in a report
-abbrev pub report_line : Place → ℕ → ℕ → Answer → Answer → List ℕ
+unfoldable pub report_line : Place → ℕ → ℕ → Answer → Answer → List ℕ
 report_line place table id a b = start_text place Report ++ rule_text table id ++ both_text a b ++ codes "\n"
 
 -- what one switch has counted
@@ -143,5 +143,5 @@ counted_text s =
     ++ codes " depth2=" ++ decimal_text s.depth2 ++ codes " deeper=" ++ decimal_text s.deeper
 
 -- the line that answers `totals`
-abbrev pub totals_line : Place → Counted → Counted → List ℕ
+unfoldable pub totals_line : Place → Counted → Counted → List ℕ
 totals_line place a b = start_text place Totals ++ codes "A" ++ counted_text a ++ codes "; B" ++ counted_text b ++ codes "\n"

@@ -30,7 +30,7 @@ frame_text None line = line
 frame_text (Some i) line = line ++ codes "." ++ decimal_text i
 
 -- the line of the statement, and the number of the frame
-abbrev pub place_text : Place → List ℕ
+unfoldable pub place_text : Place → List ℕ
 place_text p = frame_text p.frame (decimal_text p.line)
 
 -- the whole line of output

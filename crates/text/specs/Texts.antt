@@ -1,6 +1,10 @@
 -- The text of an answer, as bytes of ASCII.
-use Rattle.std.specs.Prelude.{ℕ, ◌+◌, ◌*◌, ◌/◌, ◌%◌, cond, List, [], ◌∷◌, ◌++◌, codes, decimal, nat_lt, slice_index}
+use Rattle.std.specs.Prelude.{◌≡◌, ℕ, ◌+◌, ◌*◌, ◌/◌, ◌%◌, cond, List, [], ◌∷◌, ◌++◌, codes, decimal, nat_lt, slice_index}
 use Rattle.std.specs.List.{flat_map}
+
+-- what a buffer holds after is what it held before, with a text behind it
+pub record Appended (before after text : List ℕ) : Type 0 where
+  pub is : after ≡ before ++ text
 
 -- a digit below 16, in lower case
 abbrev pub hex_digit : ℕ → ℕ
@@ -15,7 +19,7 @@ abbrev pub bytes_text : List ℕ → List ℕ
 bytes_text xs = flat_map hex2 xs
 
 -- a 16-bit number, by its two bytes, as four digits
-unfoldable pub hex_text : ℕ → ℕ → List ℕ
+abbrev pub hex_text : ℕ → ℕ → List ℕ
 hex_text high low = hex2 high ++ hex2 low
 
 -- the low 12 bits of such a number as three digits
@@ -23,7 +27,7 @@ abbrev pub flags_text : ℕ → ℕ → List ℕ
 flags_text high low = hex_digit (high % 16) ∷ hex2 low
 
 -- a number in decimal, with no leading zero
-abbrev pub decimal_text : ℕ → List ℕ
+unfoldable pub decimal_text : ℕ → List ℕ
 decimal_text n = decimal n
 
 -- the byte at a place
@@ -31,7 +35,7 @@ abbrev pub byte : List ℕ → ℕ → ℕ
 byte k i = slice_index k i
 
 -- six bytes with colons between, as 02:00:00:00:00:01
-unfoldable pub colons_text : ℕ → ℕ → ℕ → ℕ → ℕ → ℕ → List ℕ
+abbrev pub colons_text : ℕ → ℕ → ℕ → ℕ → ℕ → ℕ → List ℕ
 colons_text a b c d e f =
     hex2 a ++ codes ":" ++ hex2 b ++ codes ":" ++ hex2 c ++ codes ":" ++ hex2 d ++ codes ":" ++ hex2 e ++ codes ":" ++ hex2 f
 
@@ -41,7 +45,7 @@ mac_text k i =
     colons_text (byte k i) (byte k (i + 1)) (byte k (i + 2)) (byte k (i + 3)) (byte k (i + 4)) (byte k (i + 5))
 
 -- four bytes in decimal with dots between, as 10.0.0.1
-unfoldable pub dots_text : ℕ → ℕ → ℕ → ℕ → List ℕ
+abbrev pub dots_text : ℕ → ℕ → ℕ → ℕ → List ℕ
 dots_text a b c d = decimal_text a ++ codes "." ++ decimal_text b ++ codes "." ++ decimal_text c ++ codes "." ++ decimal_text d
 
 -- those that stand from a place on

@@ -1,185 +1,187 @@
 // The line that answers `key`.
-ghost use Rattle.std.specs.Prelude.{◌≡◌, Some, ◌++◌, slice_index, is_ok, if◌then◌else◌};
+// The functions here that are not public ask for room in the buffer, and then cannot fail.
+ghost use Rattle.std.specs.Prelude.{◌≡◌, ℕ, ◌+◌, ◌≤◌, ◌++◌, is_ok, if◌then◌else◌, vec_len, vec_capacity};
 ghost use Rattle.std.specs.Option.{option_map};
 ghost use Rattle.packet.specs.Readings.{span_of};
-ghost use Rattle.text.specs.Texts.{mac_text, quad_text, word_text, hex_text, flags_text, link_text, network_text, address_text, key_text};
+ghost use Rattle.text.specs.Texts.{Appended, mac_text, quad_text, link_text, network_text, address_text, key_text};
 ghost use Rattle.text.specs.Lines.{part_text, reading_text, answer_text, line_text};
 
-use super::hex::Byte;
 use super::page::Page;
-use super::place::Place;
+use super::place::{Place, put_place};
+use super::put::{digit, put, put_byte, put_flags, put_hex, put_number, put_refusal, put_word};
 use packet::{Key, Part, read};
 use refusal::Refusal;
 use std::alloc::AllocError;
-use std::fmt;
 
-// An Ethernet address.
-#[derive(Clone, Copy)]
-struct Mac([u8; 6]);
-
-impl fmt::Display for Mac {
-    ghost output = { λ m. Some (mac_text m.0 0) };
-
-    #[tactic(auto, unfolding(crate::specs::Texts::colons_text))]
-    fn fmt<W: fmt::Write>(&self, f: &mut fmt::Formatter<W>) -> fmt::Result {
-        let Mac([a, b, c, d, e, g]) = *self;
-        write!(
-            f,
-            "{}:{}:{}:{}:{}:{}",
-            Byte(a),
-            Byte(b),
-            Byte(c),
-            Byte(d),
-            Byte(e),
-            Byte(g)
-        )
-    }
+// The six bytes of an Ethernet address, of which the first stands at `i`.
+fn put_mac(out: &mut Vec<u8>, k: &Key, i: usize)
+    requires { (vec_len out.old + 17 ≤ vec_capacity out.old) × (i ≤ 30) }
+    ensures items { Appended out.old.items out.new.items (mac_text k.now i) }
+    ensures len { vec_len out.new ≤ vec_len out.old + 17 }
+    ensures capacity { vec_capacity out.old ≤ vec_capacity out.new }
+{
+    let (a, b, c) = (k[i], k[i + 1], k[i + 2]);
+    let (d, e, f) = (k[i + 3], k[i + 4], k[i + 5]);
+    put(
+        out,
+        &[
+            digit(a / 16),
+            digit(a % 16),
+            b':',
+            digit(b / 16),
+            digit(b % 16),
+            b':',
+            digit(c / 16),
+            digit(c % 16),
+            b':',
+            digit(d / 16),
+            digit(d % 16),
+            b':',
+            digit(e / 16),
+            digit(e % 16),
+            b':',
+            digit(f / 16),
+            digit(f % 16),
+        ],
+    );
 }
 
-// An IPv4 address.
-#[derive(Clone, Copy)]
-struct Quad([u8; 4]);
-
-impl fmt::Display for Quad {
-    ghost output = { λ q. Some (quad_text q.0 0) };
-
-    #[tactic(auto, unfolding(crate::specs::Texts::dots_text))]
-    fn fmt<W: fmt::Write>(&self, f: &mut fmt::Formatter<W>) -> fmt::Result {
-        let Quad([a, b, c, d]) = *self;
-        write!(f, "{a}.{b}.{c}.{d}")
-    }
-}
-
-// A 16-bit number in decimal.
-#[derive(Clone, Copy)]
-struct Word([u8; 2]);
-
-impl fmt::Display for Word {
-    ghost output = { λ w. Some (word_text w.0 0) };
-
-    fn fmt<W: fmt::Write>(&self, f: &mut fmt::Formatter<W>) -> fmt::Result {
-        u16::from_be_bytes(self.0).fmt(f)
-    }
-}
-
-// A 16-bit number in hexadecimal.
-#[derive(Clone, Copy)]
-struct Hex([u8; 2]);
-
-impl fmt::Display for Hex {
-    ghost output = { λ w. Some (hex_text (slice_index w.0 0) (slice_index w.0 1)) };
-
-    #[tactic(auto, unfolding(crate::specs::Texts::hex_text))]
-    fn fmt<W: fmt::Write>(&self, f: &mut fmt::Formatter<W>) -> fmt::Result {
-        let Hex([high, low]) = *self;
-        write!(f, "{}{}", Byte(high), Byte(low))
-    }
-}
-
-// The low 12 bits of a 16-bit number in hexadecimal.
-#[derive(Clone, Copy)]
-struct Flags([u8; 2]);
-
-impl fmt::Display for Flags {
-    ghost output = { λ w. Some (flags_text (slice_index w.0 0) (slice_index w.0 1)) };
-
-    fn fmt<W: fmt::Write>(&self, f: &mut fmt::Formatter<W>) -> fmt::Result {
-        let Flags([high, low]) = *self;
-        write!(f, "{:x}{}", high % 16, Byte(low))
-    }
+// The four bytes of an IPv4 address, of which the first stands at `i`.
+fn put_quad(out: &mut Vec<u8>, k: &Key, i: usize)
+    requires { (vec_len out.old + 15 ≤ vec_capacity out.old) × (i ≤ 32) }
+    ensures items { Appended out.old.items out.new.items (quad_text k.now i) }
+    ensures len { vec_len out.new ≤ vec_len out.old + 15 }
+    ensures capacity { vec_capacity out.old ≤ vec_capacity out.new }
+{
+    put_byte(out, k[i]);
+    put(out, b".");
+    put_byte(out, k[i + 1]);
+    put(out, b".");
+    put_byte(out, k[i + 2]);
+    put(out, b".");
+    put_byte(out, k[i + 3]);
 }
 
 // The in-port and the Ethernet fields.
-#[derive(Clone, Copy)]
-struct Link<'a>(&'a Key);
-
-impl fmt::Display for Link<'_> {
-    ghost output = { λ k. Some (link_text k.0.now) };
-
-    fn fmt<W: fmt::Write>(&self, f: &mut fmt::Formatter<W>) -> fmt::Result {
-        let k = self.0;
-        write!(
-            f,
-            "in_port={},dl_dst={},dl_src={},dl_type=0x{},vlan_tci=0x{}",
-            Word([k[0], k[1]]),
-            Mac([k[2], k[3], k[4], k[5], k[6], k[7]]),
-            Mac([k[8], k[9], k[10], k[11], k[12], k[13]]),
-            Hex([k[14], k[15]]),
-            Hex([k[16], k[17]])
-        )
-    }
+fn put_link(out: &mut Vec<u8>, k: &Key)
+    requires { vec_len out.old + 94 ≤ vec_capacity out.old }
+    ensures items { Appended out.old.items out.new.items (link_text k.now) }
+    ensures len { vec_len out.new ≤ vec_len out.old + 94 }
+    ensures capacity { vec_capacity out.old ≤ vec_capacity out.new }
+{
+    put(out, b"in_port=");
+    put_word(out, k[0], k[1]);
+    put(out, b",dl_dst=");
+    put_mac(out, k, 2);
+    put(out, b",dl_src=");
+    put_mac(out, k, 8);
+    put(out, b",dl_type=0x");
+    put_hex(out, k[14], k[15]);
+    put(out, b",vlan_tci=0x");
+    put_hex(out, k[16], k[17]);
 }
 
 // The fields of the IPv4 header but for the addresses, and the TCP flags.
-#[derive(Clone, Copy)]
-struct Network<'a>(&'a Key);
-
-impl fmt::Display for Network<'_> {
-    ghost output = { λ k. Some (network_text k.0.now) };
-
-    fn fmt<W: fmt::Write>(&self, f: &mut fmt::Formatter<W>) -> fmt::Result {
-        let k = self.0;
-        write!(
-            f,
-            ",frag={},nw_proto={},nw_tos={},nw_ttl={},tcp_flags=0x{}",
-            k[18],
-            k[19],
-            k[20],
-            k[21],
-            Flags([k[22], k[23]])
-        )
-    }
+fn put_network(out: &mut Vec<u8>, k: &Key)
+    requires { vec_len out.old + 60 ≤ vec_capacity out.old }
+    ensures items { Appended out.old.items out.new.items (network_text k.now) }
+    ensures len { vec_len out.new ≤ vec_len out.old + 60 }
+    ensures capacity { vec_capacity out.old ≤ vec_capacity out.new }
+{
+    put(out, b",frag=");
+    put_byte(out, k[18]);
+    put(out, b",nw_proto=");
+    put_byte(out, k[19]);
+    put(out, b",nw_tos=");
+    put_byte(out, k[20]);
+    put(out, b",nw_ttl=");
+    put_byte(out, k[21]);
+    put(out, b",tcp_flags=0x");
+    put_flags(out, k[22], k[23]);
 }
 
 // The IPv4 addresses and the transport ports.
-#[derive(Clone, Copy)]
-struct Addresses<'a>(&'a Key);
-
-impl fmt::Display for Addresses<'_> {
-    ghost output = { λ k. Some (address_text k.0.now) };
-
-    fn fmt<W: fmt::Write>(&self, f: &mut fmt::Formatter<W>) -> fmt::Result {
-        let k = self.0;
-        write!(
-            f,
-            ",nw_src={},nw_dst={},tp_src={},tp_dst={}",
-            Quad([k[24], k[25], k[26], k[27]]),
-            Quad([k[28], k[29], k[30], k[31]]),
-            Word([k[32], k[33]]),
-            Word([k[34], k[35]])
-        )
-    }
+fn put_addresses(out: &mut Vec<u8>, k: &Key)
+    requires { vec_len out.old + 72 ≤ vec_capacity out.old }
+    ensures items { Appended out.old.items out.new.items (address_text k.now) }
+    ensures len { vec_len out.new ≤ vec_len out.old + 72 }
+    ensures capacity { vec_capacity out.old ≤ vec_capacity out.new }
+{
+    put(out, b",nw_src=");
+    put_quad(out, k, 24);
+    put(out, b",nw_dst=");
+    put_quad(out, k, 28);
+    put(out, b",tp_src=");
+    put_word(out, k[32], k[33]);
+    put(out, b",tp_dst=");
+    put_word(out, k[34], k[35]);
 }
 
-// A part of the frame as offset+length, or none.
-#[derive(Clone, Copy)]
-struct Extent<'a>(Option<Part<'a>>);
+// A key, field by field.
+fn put_key(out: &mut Vec<u8>, k: &Key)
+    requires { vec_len out.old + 226 ≤ vec_capacity out.old }
+    ensures items { Appended out.old.items out.new.items (key_text k.now) }
+    ensures len { vec_len out.new ≤ vec_len out.old + 226 }
+    ensures capacity { vec_capacity out.old ≤ vec_capacity out.new }
+{
+    put_link(out, k);
+    put_network(out, k);
+    put_addresses(out, k);
+}
 
-impl fmt::Display for Extent<'_> {
-    ghost output = { λ e. Some (part_text (option_map span_of e.0)) };
-
-    #[tactic(auto, unfolding(crate::specs::Lines::part_text))]
-    fn fmt<W: fmt::Write>(&self, f: &mut fmt::Formatter<W>) -> fmt::Result {
-        match self.0 {
-            Some(part) => write!(f, "{}+{}", part.offset, part.bytes.len()),
-            None => f.write_str("none"),
+// A part of the frame as offset+length, or none. The two numbers take twenty digits each at most.
+fn put_part(out: &mut Vec<u8>, part: Option<Part<'_>>)
+    requires { vec_len out.old + 41 ≤ vec_capacity out.old }
+    ensures items { Appended out.old.items out.new.items (part_text (option_map span_of part.entry)) }
+    ensures len { vec_len out.new ≤ vec_len out.old + 41 }
+    ensures capacity { vec_capacity out.old ≤ vec_capacity out.new }
+{
+    match part {
+        Some(part) => {
+            put_number(out, part.offset as u64);
+            put(out, b"+");
+            put_number(out, part.bytes.len() as u64);
         }
+        None => put(out, b"none"),
     }
 }
 
-// What a frame that came in at a port reads as, or nothing where there is no memory for it.
+// A key and its parts.
+fn put_reading(out: &mut Vec<u8>, k: &Key, ipv4: Option<Part<'_>>, transport: Option<Part<'_>>)
+    requires { vec_len out.old + 325 ≤ vec_capacity out.old }
+    ensures items { Appended out.old.items out.new.items (reading_text k.now (option_map span_of ipv4.entry) (option_map span_of transport.entry)) }
+    ensures len { vec_len out.new ≤ vec_len out.old + 325 }
+    ensures capacity { vec_capacity out.old ≤ vec_capacity out.new }
+{
+    put_key(out, k);
+    put(out, b" ipv4=");
+    put_part(out, ipv4);
+    put(out, b" transport=");
+    put_part(out, transport);
+}
+
+// What a frame that came in at a port reads as.
+fn put_answer(out: &mut Vec<u8>, port: u16, frame: &[u8])
+    requires { vec_len out.old + 325 ≤ vec_capacity out.old }
+    ensures items { Appended out.old.items out.new.items (answer_text port frame.now) }
+    ensures len { vec_len out.new ≤ vec_len out.old + 325 }
+    ensures capacity { vec_capacity out.old ≤ vec_capacity out.new }
+{
+    match read(port, frame) {
+        Ok(reading) => put_reading(out, &reading.key, reading.ipv4, reading.transport),
+        Err(fault) => put_refusal(out, Refusal::from(fault)),
+    }
+}
+
+// The line that answers `key`, or nothing where there is no memory for it.
 pub fn key_line(page: &mut Page, place: Place, port: u16, frame: &[u8]) -> Result<(), AllocError>
     ensures { page.new ≡ (if is_ok result then page.old ++ line_text place (answer_text port frame.now) else page.old) }
 {
-    match read(port, frame) {
-        Ok(reading) => page.put(format_args!(
-            "{place} key: {}{}{} ipv4={} transport={}\n",
-            Link(&reading.key),
-            Network(&reading.key),
-            Addresses(&reading.key),
-            Extent(reading.ipv4),
-            Extent(reading.transport)
-        )),
-        Err(fault) => page.put(format_args!("{place} key: {}\n", Refusal::from(fault))),
-    }
+    let out = &mut page.text;
+    out.reserve(512)?;
+    put_place(out, place);
+    put(out, b" key: ");
+    put_answer(out, port, frame);
+    put(out, b"\n");
+    Ok(())
 }

@@ -2,7 +2,7 @@
 #![tactic(auto)]
 
 pub mod answer;
-mod hex;
 pub mod key;
 pub mod page;
 pub mod place;
+mod put;

@@ -1,15 +1,13 @@
 // The lines that are to be written out.
-ghost use Rattle.std.specs.Prelude.{◌≡◌, ℕ, [], ◌++◌, List, length, is_ok, IfOk, IfSome, if◌then◌else◌};
+ghost use Rattle.std.specs.Prelude.{◌≡◌, ℕ, [], List, length, IfOk};
 
 use std::alloc::{AllocError, Global};
-use std::fmt;
 use std::marker::Model;
 
-// A line is made apart, so that the page holds whole lines only.
+// Each line is put whole behind those that stand, or not at all.
 #[derive(Drop)]
 pub struct Page {
-    text: Vec<u8>,
-    line: String,
+    pub(crate) text: Vec<u8>,
 }
 
 // What a clause sees of it: the bytes of its lines.
@@ -19,8 +17,22 @@ impl Model for Page {
     ghost view = { λ p. p.text.items };
 }
 
-// No line of a frame is longer.
-const LINE: usize = 1024;
+// Any bytes may stand ahead of the lines.
+impl From<Vec<u8>> for Page {
+    ghost from_gives = { λ v p. p ≡ v.items };
+
+    fn from(text: Vec<u8>) -> Page {
+        Page { text }
+    }
+}
+
+impl From<Page> for Vec<u8> {
+    ghost from_gives = { λ p v. v.items ≡ p };
+
+    fn from(page: Page) -> Vec<u8> {
+        page.text
+    }
+}
 
 impl Page {
     // An empty page with room for so many bytes.
@@ -29,7 +41,6 @@ impl Page {
     {
         Ok(Page {
             text: Vec::with_capacity(heap, room)?,
-            line: String::with_capacity(heap, LINE)?,
         })
     }
 
@@ -49,14 +60,5 @@ impl Page {
         ensures { self.new ≡ [] }
     {
         self.text.clear();
-    }
-
-    // Puts a text behind the lines, or nothing where there is no memory for it.
-    pub(crate) fn put<D: fmt::Display + Drop>(&mut self, text: D) -> Result<(), AllocError>
-        ensures { IfSome (D.output text) (λ t. self.new ≡ (if is_ok result then self.old ++ t else self.old)) }
-    {
-        self.line.clear();
-        self.line.write(text)?;
-        self.text.extend_from_slice(self.line.as_bytes())
     }
 }

@@ -1,8 +1,9 @@
 // Where an answer comes from.
-ghost use Rattle.std.specs.Prelude.{Some};
+ghost use Rattle.std.specs.Prelude.{◌≡◌, ℕ, ◌+◌, ◌≤◌, vec_len, vec_capacity};
+ghost use Rattle.text.specs.Texts.{Appended};
 ghost use Rattle.text.specs.Lines.{place_text};
 
-use std::fmt;
+use super::put::{put, put_number};
 
 // Where an answer comes from: the statement's line in the script, and the frame's number in a capture.
 #[derive(Clone, Copy)]
@@ -11,13 +12,18 @@ pub struct Place {
     pub frame: Option<u64>,
 }
 
-impl fmt::Display for Place {
-    ghost output = { λ p. Some (place_text p) };
-
-    fn fmt<W: fmt::Write>(&self, f: &mut fmt::Formatter<W>) -> fmt::Result {
-        match self.frame {
-            Some(frame) => write!(f, "{}.{frame}", self.line),
-            None => self.line.fmt(f),
+pub(crate) fn put_place(out: &mut Vec<u8>, place: Place)
+    requires { vec_len out.old + 41 ≤ vec_capacity out.old }
+    ensures items { Appended out.old.items out.new.items (place_text place) }
+    ensures len { vec_len out.new ≤ vec_len out.old + 41 }
+    ensures capacity { vec_capacity out.old ≤ vec_capacity out.new }
+{
+    put_number(out, place.line);
+    match place.frame {
+        Some(frame) => {
+            put(out, b".");
+            put_number(out, frame);
         }
+        None => {}
     }
 }
