@@ -4,7 +4,7 @@ use lib.Bits.{bit_and, bit_or, bit_xor}
 use Rattle.std.specs.List.{AllByRecursion, fold}
 use Rattle.std.proofs.lemmas.List.{ext_get_or}
 use Rattle.std.proofs.lemmas.Bool.{eq-eqb, eqb-true}
-use Rattle.flow.specs.Masks.{masked, union, Covers}
+use Rattle.flow.specs.Masks.{masked, union, Covers, Agree}
 use Rattle.flow.proofs.BitLaws.{or_none, same_from_xor, xor_same}
 use Rattle.flow.proofs.MaskLaws.{masked_at, union_at, length_masked, length_union}
 
@@ -58,4 +58,35 @@ pub covers_gathered : (m v k : List ℕ) (d : ℕ) → length m ≡ length v →
 covers_gathered m v k d l n e = (
   λ t. covers_from m v k l n (gathers_none apart 0 (zip (zip m v) k) (sym e ∙ eqb-true d 0 t)).1,
   λ c. eq-eqb d 0 (e ∙ gathers_zero apart 0 (zip (zip m v) k) refl (covers_back m v k l n c)),
+)
+
+-- the bits under the mask in which a byte of two keys differs
+abbrev pub parted : (ℕ × ℕ) × ℕ → ℕ
+parted p = bit_xor (bit_and p.0.0 p.0.1) (bit_and p.0.0 p.1)
+
+agree_from : (m a b : List ℕ) → length m ≡ length a → length a ≡ length b → AllByRecursion (λ p. parted p ≡ 0) (zip (zip m a) b) → masked m a ≡ masked m b
+unfolding masked
+agree_from [] [] b l n h = refl
+agree_from [] (y ∷ a) b l n h = absurd (omega arith)
+agree_from (x ∷ m) [] b l n h = absurd (omega arith)
+agree_from (x ∷ m) (y ∷ a) [] l n h = absurd (omega arith)
+agree_from (x ∷ m) (y ∷ a) (z ∷ b) l n h =
+    ap₂ ◌∷◌ (same_from_xor (bit_and x y) (bit_and x z) h.0) (agree_from m a b (omega arith) (omega arith) h.1)
+
+agree_back : (m a b : List ℕ) → length m ≡ length a → length a ≡ length b → masked m a ≡ masked m b → AllByRecursion (λ p. parted p ≡ 0) (zip (zip m a) b)
+unfolding masked
+agree_back [] [] b l n e = tt
+agree_back [] (y ∷ a) b l n e = tt
+agree_back (x ∷ m) [] b l n e = tt
+agree_back (x ∷ m) (y ∷ a) [] l n e = tt
+agree_back (x ∷ m) (y ∷ a) (z ∷ b) l n e =
+    let here : bit_and x y ≡ bit_and x z = cc in
+    let rest : masked m a ≡ masked m b = cc in
+    (xor_same (bit_and x y) (bit_and x z) here, agree_back m a b (omega arith) (omega arith) rest)
+
+-- agreement, by the bits that are gathered
+pub agree_gathered : (m a b : List ℕ) (d : ℕ) → length m ≡ length a → length a ≡ length b → d ≡ fold (λ e p. bit_or e (parted p)) 0 (zip (zip m a) b) → Decides (eqb d 0) (Agree m a b)
+agree_gathered m a b d l n e = (
+  λ t. agree_from m a b l n (gathers_none parted 0 (zip (zip m a) b) (sym e ∙ eqb-true d 0 t)).1,
+  λ c. eq-eqb d 0 (e ∙ gathers_zero parted 0 (zip (zip m a) b) refl (agree_back m a b l n c)),
 )

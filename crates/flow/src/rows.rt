@@ -15,6 +15,17 @@ fn differing(mask: &[u8; 36], value: &[u8; 36], key: &[u8; 36]) -> u8
         .fold(0, |differ, ((m, v), k)| differ | ((m & k) ^ v))
 }
 
+// The bits under the mask in which two keys differ, gathered from all bytes.
+#[inline(always)]
+fn parted(mask: &[u8; 36], a: &[u8; 36], b: &[u8; 36]) -> u8
+    ensures { result ≡ fold (λ d p. bit_or d (bit_xor (bit_and p.0.0 p.0.1) (bit_and p.0.0 p.1))) 0 (zip (zip mask.now a.now) b.now) }
+{
+    mask.iter()
+        .zip(a)
+        .zip(b)
+        .fold(0, |parted, ((m, a), b)| parted | ((m & a) ^ (m & b)))
+}
+
 // Whether the mask and the value cover the key: its bits under the mask are the value.
 pub fn covers(mask: &[u8; 36], value: &[u8; 36], key: &[u8; 36]) -> bool
     ensures test { result ≡ covered mask.now value.now key.now }
@@ -28,7 +39,7 @@ pub fn agree(mask: &[u8; 36], a: &[u8; 36], b: &[u8; 36]) -> bool
     ensures test { result ≡ agreeing mask.now a.now b.now }
     ensures means { Decides result (Agree mask.now a.now b.now) }
 {
-    differing(mask, &masked(mask, b), a) == 0
+    parted(mask, a, b) == 0
 }
 
 // Whether `a` has no bit outside `b`.
