@@ -136,6 +136,13 @@ impl From<DraftFault> for LineFault {
     }
 }
 
+impl LineFault {
+    // The same as the fault of a script, in this line.
+    fn at(self, line: u64) -> ScriptFault {
+        ScriptFault { line, fault: self }
+    }
+}
+
 // What is wrong with a script, and in which line.
 #[derive(Debug, Drop)]
 pub struct ScriptFault {
@@ -230,51 +237,53 @@ impl<'a> Words<'a> {
         Ok(Pile { classifier })
     }
 
-    // The draft of a rule that the words NAME=VALUE write, each of which is taken so.
-    fn draft<F: Fn(&mut RuleDraft, &str) -> Result<(), WordFault>>(
+    // Puts into a draft what the words NAME=VALUE say, each of which is taken so.
+    fn fill<F: Fn(&mut RuleDraft, &str) -> Result<(), WordFault>>(
         &mut self,
+        draft: &mut RuleDraft,
         take: F,
-    ) -> Result<RuleDraft, LineFault>
+    ) -> Result<(), LineFault>
         requires { F.IsAlwaysCallable take }
     {
-        let mut draft = blank();
         for word in self.left.by_ref() {
-            if let Err(fault) = take(&mut draft, word) {
+            if let Err(fault) = take(draft, word) {
                 return Err(LineFault::Word(String::from_str(self.heap, word)?, fault));
             }
         }
-        Ok(draft)
+        Ok(())
     }
 
     fn rule(&mut self) -> Result<RuleRecord, LineFault> {
-        let draft = self.draft(|draft, word| draft.take(word))?;
+        let mut draft = blank();
+        self.fill(&mut draft, |draft, word| draft.take(word))?;
         Ok(draft.finish()?)
     }
 
     fn name(&mut self) -> Result<RuleName, LineFault> {
-        let draft = self.draft(|draft, word| draft.take_name(word))?;
+        let mut draft = blank();
+        self.fill(&mut draft, |draft, word| draft.take_name(word))?;
         Ok(draft.name()?)
     }
 
     // The statement of a verb.
     fn statement(&mut self, verb: &str) -> Result<Statement, LineFault> {
-        Ok(match verb {
-            "key" => Statement::Key(self.sent()?),
-            "keys" => Statement::Keys(self.recorded()?),
-            "switch" => Statement::Switch {
+        match verb {
+            "key" => Ok(Statement::Key(self.sent()?)),
+            "keys" => Ok(Statement::Keys(self.recorded()?)),
+            "switch" => Ok(Statement::Switch {
                 side: self.side()?,
                 pile: self.pile()?,
-            },
-            "add" => Statement::Call(Call::Add(self.rule()?)),
-            "remove" => Statement::Call(Call::Remove(self.name()?)),
-            "count" => Statement::Call(Call::Count(self.name()?)),
-            "frame" => Statement::Call(Call::Frame(self.sent()?)),
-            "frames" => Statement::Call(Call::Frames(self.recorded()?)),
-            "peek" => Statement::Call(Call::Peek(self.sent()?)),
-            "totals" => Statement::Call(Call::Totals),
-            "report" => Statement::Call(Call::Report),
-            _ => return Err(LineFault::Unknown(String::from_str(self.heap, verb)?)),
-        })
+            }),
+            "add" => Ok(Statement::Call(Call::Add(self.rule()?))),
+            "remove" => Ok(Statement::Call(Call::Remove(self.name()?))),
+            "count" => Ok(Statement::Call(Call::Count(self.name()?))),
+            "frame" => Ok(Statement::Call(Call::Frame(self.sent()?))),
+            "frames" => Ok(Statement::Call(Call::Frames(self.recorded()?))),
+            "peek" => Ok(Statement::Call(Call::Peek(self.sent()?))),
+            "totals" => Ok(Statement::Call(Call::Totals)),
+            "report" => Ok(Statement::Call(Call::Report)),
+            _ => Err(LineFault::Unknown(String::from_str(self.heap, verb)?)),
+        }
     }
 }
 
@@ -295,28 +304,25 @@ pub fn parse_line(heap: Global, line: &str) -> Result<Option<Statement>, LineFau
     }
 }
 
-// The same in a script in whose earlier lines the switches are called, or not yet.
-fn parse_behind(heap: Global, line: &str, called: bool) -> Result<Option<Statement>, LineFault> {
-    let statement = parse_line(heap, line)?;
-    if called && matches!(&statement, Some(Statement::Switch { .. })) {
-        return Err(LineFault::Late);
-    }
-    Ok(statement)
-}
-
 // The statements of a script, or the first fault in it.
 pub fn parse(heap: Global, text: &str) -> Result<Vec<Numbered>, ScriptFault> {
     let mut script = Vec::new(heap);
     let mut called = false;
     for (line, code) in (1..u64::MAX).zip(text.lines()) {
-        let fault_at = |fault| ScriptFault { line, fault };
-        let Some(statement) = parse_behind(heap, code, called).map_err(fault_at)? else {
-            continue;
-        };
-        called = called || matches!(&statement, Statement::Call(_));
-        script
-            .push(Numbered { line, statement })
-            .map_err(|_| fault_at(LineFault::Memory))?;
+        // by a match: with `map_err` and `?` an empty line takes five times as long, since the statement is moved at each
+        match parse_line(heap, code) {
+            Ok(Some(statement)) => {
+                if called && matches!(&statement, Statement::Switch { .. }) {
+                    return Err(LineFault::Late.at(line));
+                }
+                called = called || matches!(&statement, Statement::Call(_));
+                script
+                    .push(Numbered { line, statement })
+                    .map_err(|_| LineFault::Memory.at(line))?;
+            }
+            Ok(None) => {}
+            Err(fault) => return Err(fault.at(line)),
+        }
     }
     Ok(script)
 }
