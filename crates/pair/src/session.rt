@@ -39,6 +39,46 @@ fn mask_of(peek: Result<Peek, Refusal>) -> [u8; 36]
     }
 }
 
+// The calls that change no switch, for switches that are shared.
+impl Book {
+    // Answers `peek`.
+    pub fn peek<L: Level, M: Level>(
+        &mut self,
+        switches: &Switches<L, M>,
+        line: u64,
+        port: u16,
+        frame: &[u8],
+    ) -> Result<(), AllocError>
+        ensures wrote { (m : List ℕ) × (n : List ℕ) × Wrote (is_ok result) self.old self.new (peek_line (at_line line) (frame_answer (L.Level.rules switches.now.a.level) port frame.now) (frame_answer (M.Level.rules switches.now.b.level) port frame.now) m n) × Masks (L.Level.rules switches.now.a.level) port frame.now m × Masks (M.Level.rules switches.now.b.level) port frame.now n }
+        ensures differed { self.new.differed ≡ differs_with self.old (frame_answer (L.Level.rules switches.now.a.level) port frame.now) (frame_answer (M.Level.rules switches.now.b.level) port frame.now) }
+    {
+        let Sides { a, b } = switches.peek(port, frame);
+        let answers = Sides {
+            a: a.map(|p| Reply::Ports(p.ports)),
+            b: b.map(|p| Reply::Ports(p.ports)),
+        };
+        let masks = Sides {
+            a: mask_of(a),
+            b: mask_of(b),
+        };
+        self.note(&answers);
+        peek_line(&mut self.page, Place { line, frame: None }, answers, &masks)
+    }
+
+    // Answers `totals`.
+    pub fn totals<L: Level, M: Level>(
+        &mut self,
+        switches: &Switches<L, M>,
+        line: u64,
+    ) -> Result<(), AllocError>
+        ensures wrote { Wrote (is_ok result) self.old self.new (totals_line (at_line line) switches.now.a.totals switches.now.b.totals) }
+        ensures differed { self.new.differed ≡ self.old.differed }
+    {
+        let totals = switches.totals();
+        totals_line(&mut self.page, Place { line, frame: None }, totals)
+    }
+}
+
 impl<L: Level, M: Level> Session<L, M> {
     // Answers `add`. The rule stands where one of the two accepts it.
     pub fn add(&mut self, line: u64, rule: &RuleRecord) -> Result<(), AllocError>
@@ -113,22 +153,7 @@ impl<L: Level, M: Level> Session<L, M> {
         ensures wrote { (m : List ℕ) × (n : List ℕ) × Wrote (is_ok result) self.old.book self.new.book (peek_line (at_line line) (frame_answer (L.Level.rules self.old.switches.a.level) port frame.now) (frame_answer (M.Level.rules self.old.switches.b.level) port frame.now) m n) × Masks (L.Level.rules self.old.switches.a.level) port frame.now m × Masks (M.Level.rules self.old.switches.b.level) port frame.now n }
         ensures differed { self.new.book.differed ≡ differs_with self.old.book (frame_answer (L.Level.rules self.old.switches.a.level) port frame.now) (frame_answer (M.Level.rules self.old.switches.b.level) port frame.now) }
     {
-        let Sides { a, b } = self.switches.peek(port, frame);
-        let answers = Sides {
-            a: a.map(|p| Reply::Ports(p.ports)),
-            b: b.map(|p| Reply::Ports(p.ports)),
-        };
-        let masks = Sides {
-            a: mask_of(a),
-            b: mask_of(b),
-        };
-        self.book.note(&answers);
-        peek_line(
-            &mut self.book.page,
-            Place { line, frame: None },
-            answers,
-            &masks,
-        )
+        self.book.peek(&self.switches, line, port, frame)
     }
 
     // Answers `totals`.
@@ -137,8 +162,7 @@ impl<L: Level, M: Level> Session<L, M> {
         ensures wrote { Wrote (is_ok result) self.old.book self.new.book (totals_line (at_line line) self.old.switches.a.totals self.old.switches.b.totals) }
         ensures differed { self.new.book.differed ≡ self.old.book.differed }
     {
-        let totals = self.switches.totals();
-        totals_line(&mut self.book.page, Place { line, frame: None }, totals)
+        self.book.totals(&self.switches, line)
     }
 
     // The count of each standing rule.

@@ -1,5 +1,5 @@
 use Rattle.std.proofs.Common.{rules}
-use Rattle.pair.proofs.session.Session.peek.Goals as goal
+use Rattle.pair.proofs.session.Book.peek.Goals as goal
 
 pub returns-clause-wrote : goal.returns-clause-wrote
 returns-clause-wrote g c = (
