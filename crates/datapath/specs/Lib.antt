@@ -5,3 +5,4 @@ pub mod Entries
 pub mod Laws
 pub mod Given
 pub mod TablesLevelLemmas
+pub mod Crossed

@@ -1,6 +1,7 @@
 // The walk over four tables, what a level promises, and the tables as the lowest level.
 #![tactic(auto)]
 
+mod crossed;
 pub mod fault;
 pub mod laws;
 pub mod level;

@@ -1,19 +1,20 @@
 // The walk over the tables.
 ghost use Rattle.std.specs.Prelude.{◌≡◌, ◌<◌, map};
 ghost use Rattle.std.specs.List.{AllByRecursion};
+ghost use Rattle.datapath.specs.Crossed.{marks_of};
 ghost use Rattle.datapath.specs.Given.{WalkGives};
 ghost use Rattle.datapath.specs.Walk.{walk, ports_of, Tells, credit_along, due};
 
+use super::crossed::Crossed;
 use super::level::Mark;
 use super::tables::Tables;
-use arrayvec::ArrayVec;
 use classifier::Classifier;
 use flow::{empty_mask, union_into};
 
 // The rules that a key crosses, in order; their ports; and the union of the finds' masks.
-#[derive(Drop)]
+#[derive(Clone, Copy)]
 pub struct Walk {
-    pub crossed: ArrayVec<Mark, 4>,
+    pub crossed: Crossed,
     pub ports: u64,
     pub mask: [u8; 36],
 }
@@ -21,15 +22,15 @@ pub struct Walk {
 impl<C: Classifier> Tables<C> {
     // The walk of a key, from table 0 on. Changes nothing.
     pub fn walk(&self, key: &[u8; 36]) -> Walk
-        ensures crossed { result.crossed.items ≡ walk (map C.Classifier.rules self.now.classifiers.items) key.now }
+        ensures crossed { marks_of result.crossed ≡ walk (map C.Classifier.rules self.now.classifiers.items) key.now }
         ensures ports { result.ports ≡ ports_of (walk (map C.Classifier.rules self.now.classifiers.items) key.now) }
         ensures mask { Tells (map C.Classifier.rules self.now.classifiers.items) key.now result.mask }
         ensures given { WalkGives C.Classifier.gives C.Classifier.rules self.now.classifiers.items key.now result.mask }
-        ensures places { AllByRecursion (λ m. m.table < 4) result.crossed.items }
+        ensures places { AllByRecursion (λ m. m.table < 4) (marks_of result.crossed) }
     {
         let mut table = 0usize;
         let mut walk = Walk {
-            crossed: ArrayVec::new(),
+            crossed: Crossed::new(),
             ports: 0,
             mask: empty_mask(),
         };
@@ -56,8 +57,8 @@ impl<C: Classifier> Tables<C> {
 
     // n more for each of the crossed rules.
     pub fn credit_along(&mut self, walk: &Walk, n: u64)
-        requires { AllByRecursion (λ m. m.table < 4) walk.now.crossed.items }
-        ensures { map C.Classifier.rules self.new.classifiers.items ≡ credit_along (map C.Classifier.rules self.old.classifiers.items) walk.now.crossed.items n }
+        requires { AllByRecursion (λ m. m.table < 4) (marks_of walk.now.crossed) }
+        ensures { map C.Classifier.rules self.new.classifiers.items ≡ credit_along (map C.Classifier.rules self.old.classifiers.items) (marks_of walk.now.crossed) n }
     {
         for mark in walk.crossed.as_slice() {
             self.classifiers[usize::from(mark.table)].credit(mark.id, n);
