@@ -1,5 +1,5 @@
 -- Reading a record: what it shows, and what the capture is once it is let go.
-use Rattle.std.specs.Prelude.{◌≡◌, length, take, ⊤, Some, None, Ok, Err, Option, Result}
+use Rattle.std.specs.Prelude.{◌≡◌, ◌≤◌, length, take, vec_len, ⊤, Some, None, Ok, Err, Option, Result}
 use Rattle.std.specs.Borrow.{Fml, MutBor, follows_so}
 use mathlib.Core.Option.{none}
 use Rattle.capture.specs.declared.reader.Capture.{Capture}
@@ -8,9 +8,9 @@ use Rattle.capture.specs.declared.reader.Record.{Record}
 use Rattle.capture.specs.declared.reader.CaptureFault.{CaptureFault}
 use Rattle.capture.specs.Steps.{next_record, Moves, Stays, Tells}
 
--- a record has the next number, and a fault names it
+-- a record has the next number, and its frame fits the buffer; a fault names the record
 abbrev pub Says : Capture → Result (Option Record) CaptureFault → Type 0
-Says c (Ok (Some r)) = r.number ≡ next_record c
+Says c (Ok (Some r)) = (r.number ≡ next_record c) × (length r.frame.now ≤ vec_len c.buffer)
 Says c (Ok None) = Unit {0}
 Says c (Err e) = Tells c e
 

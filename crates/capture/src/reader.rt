@@ -232,4 +232,12 @@ impl Capture {
             frame: &self.buffer[..len],
         }))
     }
+
+    // The number of the record that was read last, counted from 1; 0 before the first.
+    pub fn record(&self) -> u64
+        ensures { result ≡ self.now.records }
+    {
+        let Capture { records, .. } = self;
+        *records
+    }
 }

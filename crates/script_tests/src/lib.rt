@@ -103,18 +103,15 @@ mod tests {
             Ok(capture) => capture,
             Err(fault) => return Ok(format!(in rt.alloc(); "{fault}")?),
         };
-        let mut records = 0;
         let mut len = 0;
         for _ in 0..10 {
             match capture.next_record(&mut input) {
-                Ok(Some(record)) => {
-                    records = record.number;
-                    len = record.frame.len();
-                }
+                Ok(Some(record)) => len = record.frame.len(),
                 Ok(None) => break,
                 Err(fault) => return Ok(format!(in rt.alloc(); "{fault}")?),
             }
         }
+        let records = capture.record();
         Ok(format!(in rt.alloc(); "{records} records, the last of {len} bytes")?)
     }
 
