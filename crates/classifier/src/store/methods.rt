@@ -45,7 +45,8 @@ impl Store {
         if scan::is_standing(&self.rules, new.id) {
             return Err(ClassifierFault::Stands(new.id));
         }
-        if self.rules.len() >= 64 {
+        let full = self.rules.len() >= 64;
+        if full {
             return Err(ClassifierFault::Full);
         }
         match scan::first_clash(&self.rules, new) {

@@ -10,8 +10,8 @@ returns-then-is_standing c =
     let e : list_any (λ r. eqb r.id c.args.new.now.id) xs ≡ true = search rules in
     refused_stands xs c.args.new.now c.args.self.now.ok e
 
-pub returns-then-len-ge64 : goal.returns-then-len-ge64
-returns-then-len-ge64 c =
+pub returns-then-full : goal.returns-then-full
+returns-then-full c =
     let xs = vec_items c.args.self.now.rules in
     let e : list_any (λ r. eqb r.id c.args.new.now.id) xs ≡ false = search rules in
     refused_full xs c.args.new.now c.args.self.now.ok e (omega arith)
