@@ -51,6 +51,7 @@ impl Book {
     ) -> Result<(), AllocError>
         ensures wrote { (m : List ℕ) × (n : List ℕ) × Wrote (is_ok result) self.old self.new (peek_line (at_line line) (frame_answer (L.Level.rules switches.now.a.level) port frame.now) (frame_answer (M.Level.rules switches.now.b.level) port frame.now) m n) × Masks (L.Level.rules switches.now.a.level) port frame.now m × Masks (M.Level.rules switches.now.b.level) port frame.now n }
         ensures differed { self.new.differed ≡ differs_with self.old (frame_answer (L.Level.rules switches.now.a.level) port frame.now) (frame_answer (M.Level.rules switches.now.b.level) port frame.now) }
+        ensures standing { self.new.standing ≡ self.old.standing }
     {
         let Sides { a, b } = switches.peek(port, frame);
         let answers = Sides {
@@ -73,6 +74,7 @@ impl Book {
     ) -> Result<(), AllocError>
         ensures wrote { Wrote (is_ok result) self.old self.new (totals_line (at_line line) switches.now.a.totals switches.now.b.totals) }
         ensures differed { self.new.differed ≡ self.old.differed }
+        ensures standing { self.new.standing ≡ self.old.standing }
     {
         let totals = switches.totals();
         totals_line(&mut self.page, Place { line, frame: None }, totals)

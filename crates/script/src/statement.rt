@@ -267,23 +267,23 @@ impl<'a> Words<'a> {
 
     // The statement of a verb.
     fn statement(&mut self, verb: &str) -> Result<Statement, LineFault> {
-        match verb {
-            "key" => Ok(Statement::Key(self.sent()?)),
-            "keys" => Ok(Statement::Keys(self.recorded()?)),
-            "switch" => Ok(Statement::Switch {
+        Ok(match verb {
+            "key" => Statement::Key(self.sent()?),
+            "keys" => Statement::Keys(self.recorded()?),
+            "switch" => Statement::Switch {
                 side: self.side()?,
                 pile: self.pile()?,
-            }),
-            "add" => Ok(Statement::Call(Call::Add(self.rule()?))),
-            "remove" => Ok(Statement::Call(Call::Remove(self.name()?))),
-            "count" => Ok(Statement::Call(Call::Count(self.name()?))),
-            "frame" => Ok(Statement::Call(Call::Frame(self.sent()?))),
-            "frames" => Ok(Statement::Call(Call::Frames(self.recorded()?))),
-            "peek" => Ok(Statement::Call(Call::Peek(self.sent()?))),
-            "totals" => Ok(Statement::Call(Call::Totals)),
-            "report" => Ok(Statement::Call(Call::Report)),
-            _ => Err(LineFault::Unknown(String::from_str(self.heap, verb)?)),
-        }
+            },
+            "add" => Statement::Call(Call::Add(self.rule()?)),
+            "remove" => Statement::Call(Call::Remove(self.name()?)),
+            "count" => Statement::Call(Call::Count(self.name()?)),
+            "frame" => Statement::Call(Call::Frame(self.sent()?)),
+            "frames" => Statement::Call(Call::Frames(self.recorded()?)),
+            "peek" => Statement::Call(Call::Peek(self.sent()?)),
+            "totals" => Statement::Call(Call::Totals),
+            "report" => Statement::Call(Call::Report),
+            _ => return Err(LineFault::Unknown(String::from_str(self.heap, verb)?)),
+        })
     }
 }
 
@@ -309,7 +309,8 @@ pub fn parse(heap: Global, text: &str) -> Result<Vec<Numbered>, ScriptFault> {
     let mut script = Vec::new(heap);
     let mut called = false;
     for (line, code) in (1..u64::MAX).zip(text.lines()) {
-        // by a match: with `map_err` and `?` an empty line takes five times as long, since the statement is moved at each
+        // by a match: with `map_err` and `?` an empty line takes 389 instructions here and not 77, since a statement's place is
+        // moved at each
         match parse_line(heap, code) {
             Ok(Some(statement)) => {
                 if called && matches!(&statement, Statement::Switch { .. }) {
