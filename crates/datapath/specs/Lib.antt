@@ -6,3 +6,4 @@ pub mod Laws
 pub mod Given
 pub mod TablesLevelLemmas
 pub mod Crossed
+pub mod TablesValue

@@ -3,6 +3,7 @@
 
 mod crossed;
 pub mod fault;
+mod four;
 pub mod laws;
 pub mod level;
 pub mod tables;

@@ -1,69 +1,97 @@
 // The tables: the lowest level, over any classifier.
-ghost use Rattle.std.specs.Prelude.{◌≡◌, ◌<◌, [], map, length, IfOk, Some, None, MatchResult};
-ghost use Rattle.datapath.specs.Calls.{table_refusal, action_refusal};
-ghost use Rattle.datapath.specs.Faults.{refusal_of};
+ghost use Rattle.std.specs.Prelude.{◌≡◌, ◌<◌, [], map, IfOk};
+ghost use Rattle.std.specs.List.{AllByRecursion};
+ghost use Rattle.datapath.specs.Crossed.{marks_of};
 ghost use Rattle.datapath.specs.Given.{WalkGives};
-ghost use Rattle.datapath.specs.Walk.{Forward, no_rules};
-ghost use Rattle.std.proofs.ByRecursion.{All-map};
-ghost use Rattle.std.proofs.lemmas.List.{length-map};
-ghost use Rattle.classifier.specs.Rules.{Lawful};
-ghost use Rattle.datapath.specs.TablesLevelLemmas.{each, Forward-prop};
+ghost use Rattle.datapath.specs.Walk.{no_rules, walk, ports_of, Tells, credit_along, due};
 ghost use Rattle.datapath.specs.Entries.{AllTrue};
 
 use super::fault::TablesFault;
+use super::four::Four;
 use super::level::{Decision, Level, Peek, RuleName, RuleRecord};
 use super::walk::Walk;
-use classifier::{Classifier, NewRule};
-use flow::MaskedKey;
+use classifier::Classifier;
 use std::alloc::{AllocError, Global};
+use std::marker::Model;
 
 // Four tables, each with a classifier.
 #[derive(Drop)]
 pub struct Tables<C: Classifier> {
-    pub(crate) classifiers: Vec<C>,
-    ghost four: { length classifiers.items ≡ 4 },
-    // each rule's next table is 0, or above the rule's own and at most 3
-    ghost forward: { Forward 0 (map C.Classifier.rules classifiers.items) } by { Forward-prop 0 _ },
+    four: Four<C>,
+}
+
+// Contracts see the classifiers and their rules, and that these are lawful.
+impl<C: Classifier> Model for Tables<C> {
+    ghost use Rattle.std.specs.Prelude.{map};
+    ghost use Rattle.std.specs.Coded.{codes};
+    ghost use Rattle.datapath.specs.TablesLevelLemmas.{LawfulTables-prop};
+    ghost use Rattle.datapath.specs.TablesValue.{TablesValue};
+
+    ghost Value = { TablesValue C };
+
+    ghost coded = { Prim.hlevel (codes, LawfulTables-prop) };
+
+    ghost view = { λ a.
+        record {
+          classifiers = a.four.classifiers.items;
+          rules = map C.Classifier.rules a.four.classifiers.items;
+          lawful = a.four.lawful;
+        } };
 }
 
 impl<C: Classifier + Drop> Tables<C> {
     // Four tables without a rule, each with a classifier of this kind. All memory is taken here.
     pub fn new(heap: Global, kind: C::Kind) -> Result<Tables<C>, AllocError>
-        ensures { IfOk result (λ s. map C.Classifier.rules s.classifiers.items ≡ no_rules) }
+        ensures empty { IfOk result (λ s. map C.Classifier.rules s.classifiers ≡ no_rules) }
+        ensures rules { IfOk result (λ s. s.rules ≡ no_rules) }
     {
-        let mut classifiers = Vec::with_capacity(heap, 4)?;
-        for _ in 0..4usize {
-            classifiers.push(C::new(heap, kind)?)?;
-        }
-        Ok(Tables { classifiers })
+        Ok(Tables {
+            four: Four::new(heap, kind)?,
+        })
     }
 }
 
-// The place of a table, which is one of four.
-fn place(table: u32) -> Result<usize, TablesFault>
-    ensures { MatchResult result (λ t. (table_refusal table ≡ None) × (t ≡ table) × (t < 4)) (λ e. table_refusal table ≡ Some (refusal_of e)) }
-{
-    if table > 3 {
-        return Err(TablesFault::Table(table));
+impl<C: Classifier> Tables<C> {
+    // The classifiers, from table 0 on. The rules of the tables are theirs.
+    pub fn classifiers(&self) -> &[C]
+        ensures value { result.now ≡ self.now.classifiers }
+        ensures rules { map C.Classifier.rules result.now ≡ self.now.rules }
+    {
+        &self.four.classifiers
     }
-    Ok(table as usize)
-}
 
-// Whether a rule of a table may have these ports and this next table.
-fn check_action(table: u32, ports: u64, next: u16) -> Result<(), TablesFault>
-    ensures { MatchResult result (λ _. action_refusal table ports next ≡ None) (λ e. action_refusal table ports next ≡ Some (refusal_of e)) }
-{
-    if ports % 2 == 1 {
-        return Err(TablesFault::PortZero);
+    // The walk of a key, from table 0 on. Changes nothing.
+    pub fn walk(&self, key: &[u8; 36]) -> Walk
+        ensures crossed { marks_of result.crossed ≡ walk (map C.Classifier.rules self.now.classifiers) key.now }
+        ensures ports { result.ports ≡ ports_of (walk (map C.Classifier.rules self.now.classifiers) key.now) }
+        ensures mask { Tells (map C.Classifier.rules self.now.classifiers) key.now result.mask }
+        ensures given { WalkGives C.Classifier.gives C.Classifier.rules self.now.classifiers key.now result.mask }
+        ensures places { AllByRecursion (λ m. m.table < 4) (marks_of result.crossed) }
+    {
+        self.four.walk(key)
     }
-    if next != 0 && (u32::from(next) <= table || next > 3) {
-        return Err(TablesFault::Next(next));
+
+    // n more for each of the crossed rules.
+    pub fn credit_along(&mut self, walk: &Walk, n: u64)
+        requires { AllByRecursion (λ m. m.table < 4) (marks_of walk.now.crossed) }
+        ensures { map C.Classifier.rules self.new.classifiers ≡ credit_along (map C.Classifier.rules self.old.classifiers) (marks_of walk.now.crossed) n }
+    {
+        self.four.credit_along(walk, n);
     }
-    Ok(())
+
+    // The walk of a key, with n more for each rule crossed.
+    pub fn pass(&mut self, key: &[u8; 36], n: u64) -> Walk
+        ensures ports { result.ports ≡ ports_of (walk (map C.Classifier.rules self.old.classifiers) key.now) }
+        ensures mask { Tells (map C.Classifier.rules self.old.classifiers) key.now result.mask }
+        ensures given { WalkGives C.Classifier.gives C.Classifier.rules self.old.classifiers key.now result.mask }
+        ensures counted { map C.Classifier.rules self.new.classifiers ≡ due (map C.Classifier.rules self.old.classifiers) key.now n }
+    {
+        self.four.pass(key, n)
+    }
 }
 
 impl<C: Classifier> Level for Tables<C> {
-    ghost rules = { λ s. map C.Classifier.rules s.classifiers.items };
+    ghost rules = { λ s. s.rules };
 
     ghost entries = { λ _. [] };
 
@@ -72,7 +100,7 @@ impl<C: Classifier> Level for Tables<C> {
     ghost installs = { Unit {0} };
 
     // the union of the finds' masks
-    ghost gives = { λ s k m. WalkGives C.Classifier.gives C.Classifier.rules s.classifiers.items k m };
+    ghost gives = { λ s k m. WalkGives C.Classifier.gives C.Classifier.rules s.classifiers k m };
 
     ghost depths = { λ _ _ d. d ≡ 1 };
 
@@ -80,22 +108,17 @@ impl<C: Classifier> Level for Tables<C> {
 
     ghost drops = { λ _ n. n ≡ 0 };
 
-    ghost lawful = { λ s.
-        record {
-          four = simp length-map s.four;
-          each = All-map Lawful C.Classifier.rules s.classifiers.items (each (λ c. Lawful (C.Classifier.rules c)) C.Classifier.lawful s.classifiers.items);
-          forward = s.forward;
-        } };
+    ghost lawful = { λ s. s.lawful };
 
     ghost truth = { unfold AllTrue in λ s. tt };
 
     fn peek(&self, key: &[u8; 36]) -> Peek {
-        let Walk { ports, mask, .. } = self.walk(key);
+        let Walk { ports, mask, .. } = self.four.walk(key);
         Peek { ports, mask }
     }
 
     fn decide(&mut self, key: &[u8; 36]) -> Decision {
-        let Walk { ports, mask, .. } = self.pass(key, 1);
+        let Walk { ports, mask, .. } = self.four.pass(key, 1);
         Decision {
             ports,
             mask,
@@ -104,32 +127,19 @@ impl<C: Classifier> Level for Tables<C> {
     }
 
     fn credit(&mut self, key: &[u8; 36], n: u64) {
-        let _ = self.pass(key, n);
+        let _ = self.four.pass(key, n);
     }
 
     fn add(&mut self, rule: &RuleRecord) -> Result<(), TablesFault> {
-        let t = place(rule.table)?;
-        let key = MaskedKey::from_row(&rule.mask, &rule.value)?;
-        check_action(rule.table, rule.ports, rule.next)?;
-        self.classifiers[t].add(&NewRule {
-            id: rule.id,
-            priority: rule.priority,
-            key,
-            ports: rule.ports,
-            next: rule.next,
-        })?;
-        Ok(())
+        self.four.add(rule)
     }
 
     fn remove(&mut self, name: RuleName) -> Result<(), TablesFault> {
-        let t = place(name.table)?;
-        self.classifiers[t].remove(name.id)?;
-        Ok(())
+        self.four.remove(name)
     }
 
     fn count(&mut self, name: RuleName) -> Result<u64, TablesFault> {
-        let t = place(name.table)?;
-        Ok(self.classifiers[t].count(name.id)?)
+        self.four.count(name)
     }
 
     // The tables have no entries.

@@ -6,8 +6,8 @@ ghost use Rattle.datapath.specs.Given.{WalkGives};
 ghost use Rattle.datapath.specs.Walk.{walk, ports_of, Tells, credit_along, due};
 
 use super::crossed::Crossed;
+use super::four::Four;
 use super::level::Mark;
-use super::tables::Tables;
 use classifier::Classifier;
 use flow::{empty_mask, union_into};
 
@@ -19,7 +19,7 @@ pub struct Walk {
     pub mask: [u8; 36],
 }
 
-impl<C: Classifier> Tables<C> {
+impl<C: Classifier> Four<C> {
     // The walk of a key, from table 0 on. Changes nothing.
     pub fn walk(&self, key: &[u8; 36]) -> Walk
         ensures crossed { marks_of result.crossed ≡ walk (map C.Classifier.rules self.now.classifiers.items) key.now }

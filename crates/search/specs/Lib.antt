@@ -2,3 +2,4 @@ pub mod Best
 pub mod Buckets
 pub mod Sums
 pub mod Searches
+pub mod TupleValue

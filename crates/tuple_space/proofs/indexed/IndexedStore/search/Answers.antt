@@ -9,7 +9,7 @@ use Rattle.tuple_space.proofs.SearchLaws.{search_finds}
 use Rattle.tuple_space.proofs.indexed.IndexedStore.search.Goals as goal
 
 pub invariant_of-tuple : goal.invariant_of-tuple
-invariant_of-tuple c = record { indexed = subst (λ rs. IndexedRules rs c.args.self.now.index.buckets) (sym c.rules.ensures.is) c.args.self.now.indexed }
+invariant_of-tuple c = subst (λ rs. IndexedRules rs c.args.self.now.index.buckets) (sym c.rules.ensures.is) c.args.self.now.indexed
 
 pub returns : goal.returns
 returns c =

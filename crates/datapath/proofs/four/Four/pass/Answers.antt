@@ -1,6 +1,6 @@
 use Rattle.std.proofs.Common.{map, vec_items, ap, ◌∙◌}
 use Rattle.datapath.specs.Walk.{credit_along, due}
-use Rattle.datapath.proofs.tables.Tables.pass.Goals as goal
+use Rattle.datapath.proofs.four.Four.pass.Goals as goal
 
 pub returns-clause-counted : goal.returns-clause-counted
 unfolding due

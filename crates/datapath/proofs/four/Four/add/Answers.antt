@@ -4,11 +4,12 @@ use Rattle.std.proofs.lemmas.Result.{err_from_is_err_and}
 use Rattle.classifier.specs.Rules.{new_rule}
 use Rattle.classifier.specs.Tables.{add_refusal, added}
 use Rattle.datapath.specs.Calls.{rule_of, with_rule}
-use Rattle.datapath.specs.Walk.{table_of, good_next}
+use Rattle.datapath.specs.Walk.{Forward, table_of, good_next}
 use Rattle.datapath.proofs.CallLaws.{add_table, add_outside, record_action, add_action, add_within, action_good}
 use Rattle.datapath.proofs.Forwards.{forward_either, changed_or_not, good_added}
 use Rattle.datapath.proofs.Nexts.{change_set, same_set}
-use Rattle.datapath.proofs.tables.TablesLevel.add.Goals as goal
+use Rattle.datapath.specs.TablesLevelLemmas.{lawful_rules}
+use Rattle.datapath.proofs.four.Four.add.Goals as goal
 
 zero_add_back : (t : ℕ) → t ≡ 0 + t
 zero_add_back t = omega arith
@@ -85,10 +86,9 @@ invariant_of-self g c =
     let at = c.in_ok-t.ensures in
     let lt : t < length xs = omega (arith, at.2, c.args.self.now.four) in
     let good : good_next (0 + t) r.next ≡ true = subst (λ u. good_next u r.next ≡ true) (sym at.1 ∙ zero_add_back t) (action_good r.table r.ports r.next c.in_ok-check_action.ensures) in
-    record {
-      four = simp length-set c.args.self.now.four;
-      forward =
-          forward_either f (λ rs. added rs (new_rule r.id r.priority c.in_ok-key.key.mask c.in_ok-key.key.value r.ports r.next)) xs t c.index_mut.result.now c.add.new.self lt c.index_mut.ensures.value
-          (changed_or_not _ _ _ _ c.add.result c.add.ensures)
-          (λ rs h. good_added (0 + t) rs (new_rule r.id r.priority c.in_ok-key.key.mask c.in_ok-key.key.value r.ports r.next) good h) c.args.self.now.forward;
-    }
+    let four : length (set xs t c.add.new.self) ≡ 4 = simp length-set c.args.self.now.four in
+    let forward : Forward 0 (map f (set xs t c.add.new.self)) =
+    forward_either f (λ rs. added rs (new_rule r.id r.priority c.in_ok-key.key.mask c.in_ok-key.key.value r.ports r.next)) xs t c.index_mut.result.now c.add.new.self lt c.index_mut.ensures.value
+    (changed_or_not _ _ _ _ c.add.result c.add.ensures)
+    (λ rs h. good_added (0 + t) rs (new_rule r.id r.priority c.in_ok-key.key.mask c.in_ok-key.key.value r.ports r.next) good h) c.args.self.now.lawful.forward in
+    record { four = four; lawful = lawful_rules f g.met.C.Classifier.lawful _ four forward }

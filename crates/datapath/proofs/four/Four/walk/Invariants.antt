@@ -1,7 +1,7 @@
 use Rattle.std.proofs.Common.{◌≡◌, ◌-◌, length, vec_items}
 use Rattle.datapath.specs.Crossed.{marks_of}
 use Rattle.datapath.proofs.Tours.{Touring}
-use Rattle.datapath.proofs.tables.Tables.walk.Given as goal
+use Rattle.datapath.proofs.four.Four.walk.Given as goal
 
 abbrev pub invariant-loop : goal.invariant-loop
 invariant-loop g l =

@@ -3,11 +3,12 @@ use Rattle.std.proofs.lemmas.List.{get_or-map}
 use Rattle.std.proofs.lemmas.Result.{err_from_is_err_and}
 use Rattle.classifier.specs.Tables.{missing_refusal, removed}
 use Rattle.datapath.specs.Calls.{without_rule}
-use Rattle.datapath.specs.Walk.{table_of}
+use Rattle.datapath.specs.Walk.{Forward, table_of}
 use Rattle.datapath.proofs.CallLaws.{missing_table, missing_within}
 use Rattle.datapath.proofs.Forwards.{forward_either, changed_or_not, good_removed}
 use Rattle.datapath.proofs.Nexts.{change_set, same_set}
-use Rattle.datapath.proofs.tables.TablesLevel.remove.Goals as goal
+use Rattle.datapath.specs.TablesLevelLemmas.{lawful_rules}
+use Rattle.datapath.proofs.four.Four.remove.Goals as goal
 
 pub returns-in_err-t : goal.returns-in_err-t
 returns-in_err-t g c =
@@ -56,10 +57,9 @@ invariant_of-self g c =
     let xs = vec_items c.args.self.now.classifiers in
     let t = c.in_ok-t.t in
     let lt : t < length xs = omega (arith, c.in_ok-t.ensures.2, c.args.self.now.four) in
-    record {
-      four = simp length-set c.args.self.now.four;
-      forward =
-          forward_either f (λ rs. removed rs c.args.name.id) xs t c.index_mut.result.now c.remove.new.self lt c.index_mut.ensures.value
-          (changed_or_not _ _ _ _ c.remove.result c.remove.ensures)
-          (λ rs h. good_removed (0 + t) rs c.args.name.id h) c.args.self.now.forward;
-    }
+    let four : length (set xs t c.remove.new.self) ≡ 4 = simp length-set c.args.self.now.four in
+    let forward : Forward 0 (map f (set xs t c.remove.new.self)) =
+    forward_either f (λ rs. removed rs c.args.name.id) xs t c.index_mut.result.now c.remove.new.self lt c.index_mut.ensures.value
+    (changed_or_not _ _ _ _ c.remove.result c.remove.ensures)
+    (λ rs h. good_removed (0 + t) rs c.args.name.id h) c.args.self.now.lawful.forward in
+    record { four = four; lawful = lawful_rules f g.met.C.Classifier.lawful _ four forward }

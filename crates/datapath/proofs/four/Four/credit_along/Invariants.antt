@@ -1,6 +1,6 @@
 use Rattle.std.proofs.Common.{◌≡◌, map, take, vec_items}
 use Rattle.datapath.specs.Walk.{credit_along}
-use Rattle.datapath.proofs.tables.Tables.credit_along.Given as goal
+use Rattle.datapath.proofs.four.Four.credit_along.Given as goal
 
 abbrev pub invariant-loop-mark : goal.invariant-loop-mark
 invariant-loop-mark g l =

@@ -5,7 +5,7 @@ use Rattle.datapath.specs.declared.level.Mark.{Mark}
 use Rattle.datapath.specs.Crossed.{marks_of}
 use Rattle.flow.proofs.Firsts.{none_since}
 use Rattle.datapath.proofs.Tours.{Touring, Toured, seen_at, tour_begin, tour_stop, tour_last, tour_on, tour_over}
-use Rattle.datapath.proofs.tables.Tables.walk.Goals as goal
+use Rattle.datapath.proofs.four.Four.walk.Goals as goal
 
 pub loop-init : goal.loop-init
 loop-init g c =
@@ -43,7 +43,7 @@ loop-preserved g c =
     let lt : c.loop.table < length cs = omega (arith, c.args.self.now.four, c.loop.invariant.touring.in_range) in
     let fuel : 4 - c.loop.counter ≡ suc (4 - (c.loop.counter + 1)) = omega (arith, c.loop-test.true) in
     let z = seen_at g.C.Classifier.gives g.C.Classifier.rules cs c.args.key.now c.loop.table c.find-find.result.mask (Some h) c.index.result.now lt c.index.ensures (sym c.in-Some.is ∙ c.find-find.ensures.rule) c.find-find.ensures.mask.tells c.find-find.ensures.given in
-    let e = tour_on g.C.Classifier.gives g.C.Classifier.rules cs c.args.key.now _ _ _ _ _ _ _ _ c.loop.invariant.touring fuel c.union_into.ensures h c.from-table.result c.args.self.now.four c.args.self.now.forward z c.if-rule-eq0.false c.from-table.ensures in
+    let e = tour_on g.C.Classifier.gives g.C.Classifier.rules cs c.args.key.now _ _ _ _ _ _ _ _ c.loop.invariant.touring fuel c.union_into.ensures h c.from-table.result c.args.self.now.four c.args.self.now.lawful.forward z c.if-rule-eq0.false c.from-table.ensures in
     record {
       counted = ap length c.push.ensures ∙ length_push (marks_of c.loop.walk.crossed) _ ∙ ap (λ n. n + 1) c.loop.invariant.counted;
       touring = subst (λ (xs : List Mark). Touring g.C.Classifier.gives g.C.Classifier.rules cs c.args.key.now (4 - (c.loop.counter + 1)) c.from-table.result (bit_or c.loop.walk.ports h.ports) c.union_into.new.into xs) (sym c.push.ensures) e;

@@ -2,7 +2,8 @@ use Rattle.std.proofs.Common.{◌≡◌, List, [], ◌∷◌, ◌++◌, map, len
 use Rattle.std.proofs.lemmas.List.{map_push, replicate_more, length-map}
 use Rattle.classifier.specs.declared.rule.Rule.{Rule}
 use Rattle.datapath.specs.Walk.{Forward, no_rules}
-use Rattle.datapath.proofs.tables.Tables.new.Goals as goal
+use Rattle.datapath.specs.TablesLevelLemmas.{lawful_rules}
+use Rattle.datapath.proofs.four.Four.new.Goals as goal
 
 pub loop-preserved : goal.loop-preserved
 loop-preserved g c =
@@ -23,7 +24,8 @@ invariant_of-result g c =
     let xs = vec_items c.loop.classifiers in
     let end : c.loop.counter ≡ 4 = omega (arith, c.loop-test.false, c.loop.auto.counter-end) in
     let none : map f xs ≡ no_rules = c.loop.invariant ∙ ap (λ n. replicate n []) end in
-    record { four = sym (length-map xs f) ∙ ap length none; forward = subst (Forward 0) (sym none) empty_forward }
+    let four : length xs ≡ 4 = sym (length-map xs f) ∙ ap length none in
+    record { four = four; lawful = lawful_rules f g.met.C.Classifier.lawful xs four (subst (Forward 0) (sym none) empty_forward) }
 
 pub returns : goal.returns
 returns g c =

@@ -8,7 +8,8 @@ use Rattle.datapath.specs.Walk.{Forward, credit_along, credit_at}
 use Rattle.datapath.proofs.Forwards.{forward_credit}
 use Rattle.datapath.proofs.Nexts.{credit_set}
 use Rattle.datapath.proofs.WalkLaws.{along_push}
-use Rattle.datapath.proofs.tables.Tables.credit_along.Goals as goal
+use Rattle.datapath.specs.TablesLevelLemmas.{lawful_rules}
+use Rattle.datapath.proofs.four.Four.credit_along.Goals as goal
 
 abbrev no_mark : Mark
 no_mark = record { table = 0; id = 0; ports = 0; next = 0 }
@@ -35,9 +36,10 @@ invariant_of-self g c =
     let here : c.from.result < length xs = omega (arith, c.loop-mark.self.four) in
     let now : map f (set xs c.from.result c.credit.new.self) ≡ credit_at (map f xs) c.from.result m.id c.args.n = credit_set f xs c.from.result c.index_mut.result.now c.credit.new.self m.id c.args.n here (c.credit.ensures ∙ ap (λ x. credited (f x) m.id c.args.n) c.index_mut.ensures.value) in
     let wide : c.from.result < length (map f xs) = simp length-map here in
+    let four : length (set xs c.from.result c.credit.new.self) ≡ 4 = simp length-set c.loop-mark.self.four in
     record {
-      four = simp length-set c.loop-mark.self.four;
-      forward = subst (Forward 0) (sym now) (forward_credit (map f xs) c.from.result m.id c.args.n c.loop-mark.self.forward wide);
+      four = four;
+      lawful = lawful_rules f g.met.C.Classifier.lawful _ four (subst (Forward 0) (sym now) (forward_credit (map f xs) c.from.result m.id c.args.n c.loop-mark.self.lawful.forward wide));
     }
 
 pub loop-mark-preserved : goal.loop-mark-preserved
