@@ -1,7 +1,6 @@
-// An element made of another, and a struct that holds a tuple of such elements.
-ghost use Rattle.std.specs.Prelude.{◌≡◌};
-ghost use Rattle.std.specs.Option.{option_map};
-ghost use Rattle.search.specs.Best.{best, fitting};
+// Elements made of another and of tuples, and a struct that holds a tuple.
+ghost use Rattle.std.specs.Prelude.{◌<◌, true, length};
+ghost use Rattle.callers.specs.declared.tuples.Nested.{out-Nested};
 
 use search::{ByteSum, Element, Tuple};
 
@@ -51,11 +50,53 @@ pub struct Held<'a, E: Element> {
     pub tuple: Tuple<'a, Passed<E>, ByteSum>,
 }
 
-impl<'a, E: Element> Held<'a, E> {
-    // What the tuple finds.
-    pub fn find(&self, mask: &[u8; 36], key: &[u8; 36]) -> Option<E::Answer>
-        ensures { result ≡ option_map (λ s. E.Element.says s.one) (best (λ s. E.Element.level s.one) (fitting (λ s. E.Element.may s.one) (λ s. E.Element.masks s.one) (λ s. E.Element.values s.one) mask.now key.now) self.now.tuple.slots) }
-    {
-        self.tuple.find(mask, key)
+// An element that may hold a tuple of its own kind.
+#[derive(Drop)]
+#[cycle(nested)]
+pub struct Nested<'a> {
+    pub rank: u16,
+    pub mask: [u8; 36],
+    pub value: [u8; 36],
+    pub below: Option<Tuple<'a, Nested<'a>, ByteSum>>,
+}
+
+impl<'a> Element for Nested<'a> {
+    type Answer = u16;
+
+    ghost level = { λ s. (out-Nested s).rank };
+
+    ghost may = { λ _. true };
+
+    ghost masks = { λ s. (out-Nested s).mask };
+
+    ghost values = { λ s. (out-Nested s).value };
+
+    ghost says = { λ s. (out-Nested s).rank };
+
+    fn rank(&self) -> u16 {
+        self.rank
     }
+
+    fn may_answer(&self) -> bool {
+        true
+    }
+
+    fn mask(&self) -> &[u8; 36] {
+        &self.mask
+    }
+
+    fn value(&self) -> &[u8; 36] {
+        &self.value
+    }
+
+    fn answer(&self) -> u16 {
+        self.rank
+    }
+}
+
+// How many slots one of some tuples has.
+pub fn slots_at<'a, E: Element>(tuples: &[Tuple<'a, E, ByteSum>], at: usize) -> usize
+    requires { at < length tuples.now }
+{
+    tuples[at].slots.len()
 }

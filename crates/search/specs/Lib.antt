@@ -2,4 +2,3 @@ pub mod Best
 pub mod Buckets
 pub mod Sums
 pub mod Searches
-pub mod TupleValue

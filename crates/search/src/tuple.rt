@@ -5,30 +5,18 @@ ghost use Rattle.std.specs.Option.{option_map};
 ghost use Rattle.std.specs.Str.{bytes_eq};
 ghost use Rattle.flow.specs.Masks.{covered};
 ghost use Rattle.search.specs.Best.{best, best_place, numbered, covering, fitting};
+ghost use Rattle.search.specs.Buckets.{home, Indexed};
 ghost use Rattle.search.specs.Searches.{stepped, marking, Below, seen};
 
 use crate::element::Element;
 use crate::hash::KeyHash;
 use crate::index::Index;
-use std::marker::Model;
 
 // An owner's slots with their index.
 #[derive(Drop)]
-pub struct Tuple<'a, E: Element, H: KeyHash> {
+pub struct Tuple<'a, E, H> {
     pub slots: &'a [E],
     pub index: &'a Index<H>,
-}
-
-// The index is that of the slots.
-impl<'a, E: Element, H: KeyHash> Model for Tuple<'a, E, H> {
-    ghost use Rattle.search.specs.Buckets.{home, Indexed};
-    ghost use Rattle.search.specs.TupleValue.{TupleValue};
-
-    ghost Value = { TupleValue E };
-
-    ghost view = { λ a. record { slots = a.slots.now; buckets = a.index.now.buckets } };
-
-    ghost invariant = { λ a. Indexed E.Element.may (home H.KeyHash.hash E.Element.masks E.Element.values) a.slots.now a.index.now.buckets };
 }
 
 // A slot that was found.
@@ -123,10 +111,11 @@ fn best_of<'b, E: Element>(
 }
 
 impl<'a, E: Element, H: KeyHash> Tuple<'a, E, H> {
-    // The slot of highest rank that fits.
+    // The slot of highest rank that fits. The index has to be that of the slots.
     fn hit(&self, mask: &[u8; 36], key: &[u8; 36]) -> Option<Hit<'a, E>>
-        ensures place { option_map seen result ≡ best (λ x. E.Element.level x.1) (λ x. fitting E.Element.may E.Element.masks E.Element.values mask.now key.now x.1) (numbered 0 self.now.slots) }
-        ensures element { option_map (λ h. h.element.now) result ≡ best E.Element.level (fitting E.Element.may E.Element.masks E.Element.values mask.now key.now) self.now.slots }
+        requires { Indexed E.Element.may (home H.KeyHash.hash E.Element.masks E.Element.values) self.now.slots.now self.now.index.now.buckets }
+        ensures place { option_map seen result ≡ best (λ x. E.Element.level x.1) (λ x. fitting E.Element.may E.Element.masks E.Element.values mask.now key.now x.1) (numbered 0 self.now.slots.now) }
+        ensures element { option_map (λ h. h.element.now) result ≡ best E.Element.level (fitting E.Element.may E.Element.masks E.Element.values mask.now key.now) self.now.slots.now }
     {
         best_of(self.slots, self.index.slots_of(mask, key), mask, key)
     }
@@ -134,7 +123,8 @@ impl<'a, E: Element, H: KeyHash> Tuple<'a, E, H> {
     // The answer of the element of highest rank that may answer, has the mask and covers the key; of several of the
     // same rank, of the last.
     pub fn find(&self, mask: &[u8; 36], key: &[u8; 36]) -> Option<E::Answer>
-        ensures { result ≡ option_map E.Element.says (best E.Element.level (fitting E.Element.may E.Element.masks E.Element.values mask.now key.now) self.now.slots) }
+        requires { Indexed E.Element.may (home H.KeyHash.hash E.Element.masks E.Element.values) self.now.slots.now self.now.index.now.buckets }
+        ensures { result ≡ option_map E.Element.says (best E.Element.level (fitting E.Element.may E.Element.masks E.Element.values mask.now key.now) self.now.slots.now) }
     {
         // by a match: with `map` a find over 16 tuples takes 224 ns and not 179
         match self.hit(mask, key) {
@@ -145,7 +135,8 @@ impl<'a, E: Element, H: KeyHash> Tuple<'a, E, H> {
 
     // The place of that element.
     pub fn find_place(&self, mask: &[u8; 36], key: &[u8; 36]) -> Option<usize>
-        ensures { result ≡ best_place E.Element.level (fitting E.Element.may E.Element.masks E.Element.values mask.now key.now) self.now.slots }
+        requires { Indexed E.Element.may (home H.KeyHash.hash E.Element.masks E.Element.values) self.now.slots.now self.now.index.now.buckets }
+        ensures { result ≡ best_place E.Element.level (fitting E.Element.may E.Element.masks E.Element.values mask.now key.now) self.now.slots.now }
     {
         self.hit(mask, key).map(|hit| hit.place)
     }

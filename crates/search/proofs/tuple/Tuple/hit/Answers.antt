@@ -10,24 +10,23 @@ use Rattle.search.proofs.tuple.Tuple.hit.Goals as goal
 pub best_of-requires : goal.best_of-requires
 best_of-requires g c =
     let m = g.E.Element in
-    let xs = c.self.inside.slots.now in
-    let bs = c.self.inside.index.now.buckets in
+    let xs = c.args.self.now.slots.now in
+    let bs = c.args.self.now.index.now.buckets in
     let hash = g.H.KeyHash.hash in
     subst (λ z. Below z (length xs)) (sym c.slots_of.ensures)
-    (marked_within hash m.may m.masks m.values c.args.mask.now c.args.key.now xs bs c.self.invariant (hash (masked c.args.mask.now c.args.key.now)))
+    (marked_within hash m.may m.masks m.values c.args.mask.now c.args.key.now xs bs c.requires (hash (masked c.args.mask.now c.args.key.now)))
 
 pub returns : goal.returns
 returns g c =
     let m = g.E.Element in
-    let xs = c.self.inside.slots.now in
-    let bs = c.self.inside.index.now.buckets in
+    let xs = c.args.self.now.slots.now in
+    let bs = c.args.self.now.index.now.buckets in
     let p =
     c.best_of.ensures
     ∙ ap (λ z. best (λ x. m.level x.1) (marking z (covering m.masks m.values c.args.mask.now c.args.key.now)) (numbered 0 xs)) c.slots_of.ensures
-    ∙ best_indexed g.H.KeyHash.hash m.may m.masks m.values c.args.mask.now c.args.key.now xs bs c.self.invariant m.level in
-    let held = ap (λ v. v.slots) c.self.view_is in
-    let fits = fitting m.may m.masks m.values c.args.mask.now c.args.key.now in
+    ∙ best_indexed g.H.KeyHash.hash m.may m.masks m.values c.args.mask.now c.args.key.now xs bs c.requires m.level in
     record {
-      place = p ∙ ap (λ ys. best (λ x. m.level x.1) (λ x. fits x.1) (numbered 0 ys)) held;
-      element = seen_element c.best_of.result ∙ ap (option_map (λ x. x.1)) p ∙ best_value m.level fits 0 xs ∙ ap (best m.level fits) held;
+      place = p;
+      element = seen_element c.best_of.result ∙ ap (option_map (λ x. x.1)) p
+          ∙ best_value m.level (fitting m.may m.masks m.values c.args.mask.now c.args.key.now) 0 xs;
     }

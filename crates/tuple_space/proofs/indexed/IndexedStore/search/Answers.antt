@@ -8,8 +8,8 @@ use Rattle.tuple_space.specs.Visits.{searched}
 use Rattle.tuple_space.proofs.SearchLaws.{search_finds}
 use Rattle.tuple_space.proofs.indexed.IndexedStore.search.Goals as goal
 
-pub invariant_of-tuple : goal.invariant_of-tuple
-invariant_of-tuple c = subst (λ rs. IndexedRules rs c.args.self.now.index.buckets) (sym c.rules.ensures.is) c.args.self.now.indexed
+pub find-requires : goal.find-requires
+find-requires c = subst (λ rs. IndexedRules rs c.args.self.now.index.buckets) (sym c.rules.ensures.is) c.args.self.now.indexed
 
 pub returns : goal.returns
 returns c =
