@@ -28,6 +28,7 @@ mod tests {
     #[test]
     fn held_tables(rt: HostRuntime) -> Result<(), Fail> {
         let mut held: Held<Linear> = Held::new(rt.alloc(), ())?;
+        assert_eq!(rt; held.tables.classifiers().len(), 4);
         assert_eq!(rt; held.ports(&[0; 36]), 0);
         if held.tables.add(&rule()).is_err() {
             return Err(Fail::new("the rule is refused"));

@@ -3,21 +3,22 @@ use Rattle.std.specs.Prelude.{◌≡◌, ℕ, ◌+◌, true, List, [], ◌∷◌
 use Rattle.std.specs.List.{AllByRecursion, AllByRecursion-prop}
 use Rattle.std.specs.Coded.{×_prop, Unit-prop}
 use Rattle.std.proofs.Common.{◌∙◌}
+use Rattle.std.proofs.ByRecursion.{All-map}
 use Rattle.std.proofs.lemmas.List.{length-map}
 use Rattle.std.proofs.Props.{props}
 use Rattle.classifier.specs.declared.rule.Rule.{Rule}
 use Rattle.classifier.specs.Rules.{SoundRule, Rising, Apart, Lawful}
 use Rattle.datapath.specs.Walk.{TablesOf, Forward, LawfulTables, good_next}
 
--- what holds of each value's image holds of each in the images of a list
-pub each : {X Y : Type 0} (P : Y → Type 0) (f : X → Y) → ((x : X) → P (f x)) → (xs : List X) → AllByRecursion P (map f xs)
-each P f h [] = tt
-each P f h (x ∷ xs) = (h x, each P f h xs)
+-- what holds of every value holds of each in a list
+pub each : {X : Type 0} (P : X → Type 0) → ((x : X) → P x) → (xs : List X) → AllByRecursion P xs
+each P h [] = tt
+each P h (x ∷ xs) = (h x, each P h xs)
 
 -- four classifiers hold lawful tables, where each next table is a good one
 pub lawful_rules : {C : Type 0} (f : C → List Rule) → ((c : C) → Lawful (f c)) → (cs : List C) → length cs ≡ 4 → Forward 0 (map f cs) → LawfulTables (map f cs)
 lawful_rules f lawful cs four forward =
-    record { four = length-map cs f ∙ four; each = each Lawful f lawful cs; forward = forward }
+    record { four = length-map cs f ∙ four; each = All-map Lawful f cs (each (λ c. Lawful (f c)) lawful cs); forward = forward }
 
 -- that tables go forward has at most one proof
 pub Forward-prop : (t : ℕ) (ts : TablesOf) → IsProp (Forward t ts)
