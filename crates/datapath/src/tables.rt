@@ -14,7 +14,8 @@ use classifier::Classifier;
 use std::alloc::{AllocError, Global};
 use std::marker::Model;
 
-// Four tables, each with a classifier.
+// Four tables, each with a classifier. The facts are those of `Four`, behind a model: as facts of this type, over its bound,
+// they would keep tables out of callers' structs whose parameter the classifiers are made of.
 #[derive(Drop)]
 pub struct Tables<C: Classifier> {
     four: Four<C>,

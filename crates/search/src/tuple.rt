@@ -12,7 +12,8 @@ use crate::element::Element;
 use crate::hash::KeyHash;
 use crate::index::Index;
 
-// An owner's slots with their index.
+// An owner's slots with their index. That the index is that of the slots is asked by each search: as a fact of the type, over
+// its bounds, it would keep tuples out of callers' structs whose parameter the elements are made of.
 #[derive(Drop)]
 pub struct Tuple<'a, E, H> {
     pub slots: &'a [E],
@@ -111,7 +112,7 @@ fn best_of<'b, E: Element>(
 }
 
 impl<'a, E: Element, H: KeyHash> Tuple<'a, E, H> {
-    // The slot of highest rank that fits. The index has to be that of the slots.
+    // The slot of highest rank that fits.
     fn hit(&self, mask: &[u8; 36], key: &[u8; 36]) -> Option<Hit<'a, E>>
         requires { Indexed E.Element.may (home H.KeyHash.hash E.Element.masks E.Element.values) self.now.slots.now self.now.index.now.buckets }
         ensures place { option_map seen result ≡ best (λ x. E.Element.level x.1) (λ x. fitting E.Element.may E.Element.masks E.Element.values mask.now key.now x.1) (numbered 0 self.now.slots.now) }
