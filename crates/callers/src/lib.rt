@@ -1,6 +1,7 @@
 // Types of a caller: a classifier and an element made of others, and structs that hold tables and tuples of these.
 #![tactic(auto)]
 
+pub mod calls;
 pub mod tables;
 pub mod tuples;
 

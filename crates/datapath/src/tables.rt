@@ -1,10 +1,13 @@
 // The tables: the lowest level, over any classifier.
-ghost use Rattle.std.specs.Prelude.{◌≡◌, ◌<◌, [], map, IfOk};
+ghost use Rattle.std.specs.Prelude.{◌≡◌, ◌<◌, [], map, IfOk, Some, None, MatchResult};
 ghost use Rattle.std.specs.List.{AllByRecursion};
 ghost use Rattle.datapath.specs.Crossed.{marks_of};
 ghost use Rattle.datapath.specs.Given.{WalkGives};
 ghost use Rattle.datapath.specs.Walk.{no_rules, walk, ports_of, Tells, credit_along, due};
+ghost use Rattle.datapath.specs.Calls.{add_fault, with_rule, missing_fault, without_rule, rule_count};
 ghost use Rattle.datapath.specs.Entries.{AllTrue};
+ghost use Rattle.datapath.specs.Faults.{refusal_of};
+ghost use Rattle.datapath.specs.TablesValue.{OfClassifiers};
 
 use super::fault::TablesFault;
 use super::four::Four;
@@ -36,6 +39,7 @@ impl<C: Classifier> Model for Tables<C> {
         record {
           classifiers = a.four.classifiers.items;
           rules = map C.Classifier.rules a.four.classifiers.items;
+          four = a.four.four;
           lawful = a.four.lawful;
         } };
 }
@@ -56,7 +60,7 @@ impl<C: Classifier> Tables<C> {
     // The classifiers, from table 0 on. The rules of the tables are theirs.
     pub fn classifiers(&self) -> &[C]
         ensures value { result.now ≡ self.now.classifiers }
-        ensures rules { map C.Classifier.rules result.now ≡ self.now.rules }
+        ensures rules { OfClassifiers C.Classifier.rules self.now }
     {
         &self.four.classifiers
     }
@@ -68,6 +72,7 @@ impl<C: Classifier> Tables<C> {
         ensures mask { Tells (map C.Classifier.rules self.now.classifiers) key.now result.mask }
         ensures given { WalkGives C.Classifier.gives C.Classifier.rules self.now.classifiers key.now result.mask }
         ensures places { AllByRecursion (λ m. m.table < 4) (marks_of result.crossed) }
+        ensures rules { OfClassifiers C.Classifier.rules self.now }
     {
         self.four.walk(key)
     }
@@ -75,7 +80,9 @@ impl<C: Classifier> Tables<C> {
     // n more for each of the crossed rules.
     pub fn credit_along(&mut self, walk: &Walk, n: u64)
         requires { AllByRecursion (λ m. m.table < 4) (marks_of walk.now.crossed) }
-        ensures { map C.Classifier.rules self.new.classifiers ≡ credit_along (map C.Classifier.rules self.old.classifiers) (marks_of walk.now.crossed) n }
+        ensures counted { map C.Classifier.rules self.new.classifiers ≡ credit_along (map C.Classifier.rules self.old.classifiers) (marks_of walk.now.crossed) n }
+        ensures before { OfClassifiers C.Classifier.rules self.old }
+        ensures after { OfClassifiers C.Classifier.rules self.new }
     {
         self.four.credit_along(walk, n);
     }
@@ -86,6 +93,8 @@ impl<C: Classifier> Tables<C> {
         ensures mask { Tells (map C.Classifier.rules self.old.classifiers) key.now result.mask }
         ensures given { WalkGives C.Classifier.gives C.Classifier.rules self.old.classifiers key.now result.mask }
         ensures counted { map C.Classifier.rules self.new.classifiers ≡ due (map C.Classifier.rules self.old.classifiers) key.now n }
+        ensures before { OfClassifiers C.Classifier.rules self.old }
+        ensures after { OfClassifiers C.Classifier.rules self.new }
     {
         self.four.pass(key, n)
     }
@@ -113,12 +122,25 @@ impl<C: Classifier> Level for Tables<C> {
 
     ghost truth = { unfold AllTrue in λ s. tt };
 
-    fn peek(&self, key: &[u8; 36]) -> Peek {
+    fn peek(&self, key: &[u8; 36]) -> Peek
+        ensures ports { result.ports ≡ ports_of (walk self.now.rules key.now) }
+        ensures mask { Tells self.now.rules key.now result.mask }
+        ensures given { WalkGives C.Classifier.gives C.Classifier.rules self.now.classifiers key.now result.mask }
+        ensures rules { OfClassifiers C.Classifier.rules self.now }
+    {
         let Walk { ports, mask, .. } = self.four.walk(key);
         Peek { ports, mask }
     }
 
-    fn decide(&mut self, key: &[u8; 36]) -> Decision {
+    fn decide(&mut self, key: &[u8; 36]) -> Decision
+        ensures ports { result.ports ≡ ports_of (walk self.old.rules key.now) }
+        ensures mask { Tells self.old.rules key.now result.mask }
+        ensures given { WalkGives C.Classifier.gives C.Classifier.rules self.old.classifiers key.now result.mask }
+        ensures counted { self.new.rules ≡ due self.old.rules key.now 1 }
+        ensures depth { result.depth ≡ 1 }
+        ensures before { OfClassifiers C.Classifier.rules self.old }
+        ensures after { OfClassifiers C.Classifier.rules self.new }
+    {
         let Walk { ports, mask, .. } = self.four.pass(key, 1);
         Decision {
             ports,
@@ -127,28 +149,51 @@ impl<C: Classifier> Level for Tables<C> {
         }
     }
 
-    fn credit(&mut self, key: &[u8; 36], n: u64) {
+    fn credit(&mut self, key: &[u8; 36], n: u64)
+        ensures counted { self.new.rules ≡ due self.old.rules key.now n }
+        ensures before { OfClassifiers C.Classifier.rules self.old }
+        ensures after { OfClassifiers C.Classifier.rules self.new }
+    {
         let _ = self.four.pass(key, n);
     }
 
-    fn add(&mut self, rule: &RuleRecord) -> Result<(), TablesFault> {
+    fn add(&mut self, rule: &RuleRecord) -> Result<(), TablesFault>
+        ensures answer { MatchResult result (λ _. (add_fault self.old.rules rule.now ≡ None) × (self.new.rules ≡ with_rule self.old.rules rule.now)) (λ e. (add_fault self.old.rules rule.now ≡ Some (refusal_of e)) × (self.new.rules ≡ self.old.rules)) }
+        ensures before { OfClassifiers C.Classifier.rules self.old }
+        ensures after { OfClassifiers C.Classifier.rules self.new }
+    {
         self.four.add(rule)
     }
 
-    fn remove(&mut self, name: RuleName) -> Result<(), TablesFault> {
+    fn remove(&mut self, name: RuleName) -> Result<(), TablesFault>
+        ensures answer { MatchResult result (λ _. (missing_fault self.old.rules name.table name.id ≡ None) × (self.new.rules ≡ without_rule self.old.rules name.table name.id)) (λ e. (missing_fault self.old.rules name.table name.id ≡ Some (refusal_of e)) × (self.new.rules ≡ self.old.rules)) }
+        ensures before { OfClassifiers C.Classifier.rules self.old }
+        ensures after { OfClassifiers C.Classifier.rules self.new }
+    {
         self.four.remove(name)
     }
 
-    fn count(&mut self, name: RuleName) -> Result<u64, TablesFault> {
+    fn count(&mut self, name: RuleName) -> Result<u64, TablesFault>
+        ensures same { self.new ≡ self.old }
+        ensures value { MatchResult result (λ n. (missing_fault self.old.rules name.table name.id ≡ None) × (n ≡ rule_count self.old.rules name.table name.id)) (λ e. missing_fault self.old.rules name.table name.id ≡ Some (refusal_of e)) }
+        ensures rules { OfClassifiers C.Classifier.rules self.old }
+    {
         self.four.count(name)
     }
 
-    // The tables have no entries.
-    fn revalidate(&mut self, _n: u32) -> u32 {
+    fn revalidate(&mut self, _n: u32) -> u32
+        ensures same { self.new ≡ self.old }
+        ensures remaining { result ≡ 0 }
+    {
+        // the tables have no suspect entries
         0
     }
 
-    fn evict(&mut self) -> u32 {
+    fn evict(&mut self) -> u32
+        ensures same { self.new ≡ self.old }
+        ensures dropped { result ≡ 0 }
+    {
+        // nor any to drop
         0
     }
 }

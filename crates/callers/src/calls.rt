@@ -1,0 +1,35 @@
+// What a caller learns of the classifiers' rules by calls of the tables, and of the tables as a level, one after the other.
+ghost use Rattle.std.specs.Prelude.{◌≡◌, map};
+ghost use Rattle.datapath.specs.Walk.{walk, ports_of, due};
+
+use classifier::Classifier;
+use datapath::Tables;
+use datapath::level::Level;
+
+pub fn pass_and_peek<C: Classifier>(tables: &mut Tables<C>, key: &[u8; 36]) -> u64
+    ensures { result ≡ ports_of (walk (due (map C.Classifier.rules tables.old.classifiers) key.now 3) key.now) }
+{
+    let _ = tables.pass(key, 3);
+    tables.peek(key).ports
+}
+
+pub fn credit_and_walk<C: Classifier>(tables: &mut Tables<C>, key: &[u8; 36]) -> u64
+    ensures { result ≡ ports_of (walk (due (map C.Classifier.rules tables.old.classifiers) key.now 3) key.now) }
+{
+    tables.credit(key, 3);
+    tables.walk(key).ports
+}
+
+pub fn evict_and_walk<C: Classifier>(tables: &mut Tables<C>, key: &[u8; 36]) -> u64
+    ensures { result ≡ ports_of (walk (map C.Classifier.rules tables.old.classifiers) key.now) }
+{
+    let _ = tables.evict();
+    tables.walk(key).ports
+}
+
+pub fn decide_twice<C: Classifier>(tables: &mut Tables<C>, key: &[u8; 36])
+    ensures { map C.Classifier.rules tables.new.classifiers ≡ due (due (map C.Classifier.rules tables.old.classifiers) key.now 1) key.now 1 }
+{
+    let _ = tables.decide(key);
+    let _ = tables.decide(key);
+}
