@@ -100,6 +100,7 @@ impl<C: Classifier> Tables<C> {
     }
 }
 
+// Each call promises what the interface does, and that the rules before and after it are the classifiers'.
 impl<C: Classifier> Level for Tables<C> {
     ghost rules = { λ s. s.rules };
 
