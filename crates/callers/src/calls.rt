@@ -6,6 +6,7 @@ use classifier::Classifier;
 use datapath::Tables;
 use datapath::level::Level;
 
+// Three more for each rule crossed, as tables; then where the key goes, as a level.
 pub fn pass_and_peek<C: Classifier>(tables: &mut Tables<C>, key: &[u8; 36]) -> u64
     ensures { result ≡ ports_of (walk (due (map C.Classifier.rules tables.old.classifiers) key.now 3) key.now) }
 {
@@ -13,6 +14,7 @@ pub fn pass_and_peek<C: Classifier>(tables: &mut Tables<C>, key: &[u8; 36]) -> u
     tables.peek(key).ports
 }
 
+// The same the other way: as a level, and then as tables.
 pub fn credit_and_walk<C: Classifier>(tables: &mut Tables<C>, key: &[u8; 36]) -> u64
     ensures { result ≡ ports_of (walk (due (map C.Classifier.rules tables.old.classifiers) key.now 3) key.now) }
 {
@@ -20,6 +22,7 @@ pub fn credit_and_walk<C: Classifier>(tables: &mut Tables<C>, key: &[u8; 36]) ->
     tables.walk(key).ports
 }
 
+// An eviction leaves the classifiers as they are.
 pub fn evict_and_walk<C: Classifier>(tables: &mut Tables<C>, key: &[u8; 36]) -> u64
     ensures { result ≡ ports_of (walk (map C.Classifier.rules tables.old.classifiers) key.now) }
 {
@@ -27,9 +30,10 @@ pub fn evict_and_walk<C: Classifier>(tables: &mut Tables<C>, key: &[u8; 36]) -> 
     tables.walk(key).ports
 }
 
-pub fn decide_twice<C: Classifier>(tables: &mut Tables<C>, key: &[u8; 36])
+// Two more for each rule crossed, by two calls.
+pub fn decide_and_credit<C: Classifier>(tables: &mut Tables<C>, key: &[u8; 36])
     ensures { map C.Classifier.rules tables.new.classifiers ≡ due (due (map C.Classifier.rules tables.old.classifiers) key.now 1) key.now 1 }
 {
     let _ = tables.decide(key);
-    let _ = tables.decide(key);
+    tables.credit(key, 1);
 }

@@ -4,7 +4,7 @@ ghost use Rattle.datapath.specs.Walk.{no_rules, walk, ports_of};
 
 use classifier::{Classifier, ClassifierFault, Find, NewRule};
 use datapath::Tables;
-use datapath::level::{Level, Peek};
+use datapath::level::Level;
 use std::alloc::{AllocError, Global};
 
 // A classifier that hands each call on to another.

@@ -1,5 +1,7 @@
 // Elements made of another and of tuples, and a struct that holds a tuple.
-ghost use Rattle.std.specs.Prelude.{◌<◌, true, length};
+ghost use Rattle.std.specs.Prelude.{◌≡◌, ◌<◌, true, length, Some};
+ghost use Rattle.std.specs.List.{slice_get};
+ghost use Rattle.std.specs.Option.{option_map};
 ghost use Rattle.callers.specs.declared.tuples.Nested.{out-Nested};
 
 use search::{ByteSum, Element, Tuple};
@@ -97,6 +99,7 @@ impl<'a> Element for Nested<'a> {
 // How many slots one of some tuples has.
 pub fn slots_at<'a, E: Element>(tuples: &[Tuple<'a, E, ByteSum>], at: usize) -> usize
     requires { at < length tuples.now }
+    ensures { option_map (λ t. length t.slots.now) (slice_get tuples.now at) ≡ Some result }
 {
     tuples[at].slots.len()
 }
