@@ -1,12 +1,15 @@
-// Four classifiers, one for each table.
-ghost use Rattle.std.specs.Prelude.{◌≡◌, ◌<◌, map, length, IfOk, Some, None, MatchResult};
+// The tables as a struct with facts of its own: their rules are their classifiers' rules by definition.
+ghost use Rattle.std.specs.Prelude.{◌≡◌, ◌<◌, [], map, length, IfOk, Some, None, MatchResult};
 ghost use Rattle.datapath.specs.Calls.{table_refusal, action_refusal, add_fault, with_rule, missing_fault, without_rule, rule_count};
+ghost use Rattle.datapath.specs.Entries.{AllTrue};
 ghost use Rattle.datapath.specs.Faults.{refusal_of};
+ghost use Rattle.datapath.specs.Given.{WalkGives};
 ghost use Rattle.datapath.specs.Walk.{LawfulTables, no_rules};
 ghost use Rattle.datapath.specs.TablesLevelLemmas.{LawfulTables-prop};
 
 use super::fault::TablesFault;
-use super::level::{RuleName, RuleRecord};
+use super::level::{Decision, Level, Peek, RuleName, RuleRecord};
+use super::walk::Walk;
 use classifier::{Classifier, NewRule};
 use flow::MaskedKey;
 use std::alloc::{AllocError, Global};
@@ -88,5 +91,69 @@ impl<C: Classifier> Four<C> {
     {
         let t = place(name.table)?;
         Ok(self.classifiers[t].count(name.id)?)
+    }
+}
+
+// The rules of these tables are their classifiers' rules.
+impl<C: Classifier> Level for Four<C> {
+    ghost rules = { λ s. map C.Classifier.rules s.classifiers.items };
+
+    ghost entries = { λ _. [] };
+
+    ghost holds = { λ _ _. Unit {0} };
+
+    ghost installs = { Unit {0} };
+
+    // the union of the finds' masks
+    ghost gives = { λ s k m. WalkGives C.Classifier.gives C.Classifier.rules s.classifiers.items k m };
+
+    ghost depths = { λ _ _ d. d ≡ 1 };
+
+    ghost suspects = { λ _ n. n ≡ 0 };
+
+    ghost drops = { λ _ n. n ≡ 0 };
+
+    ghost lawful = { λ s. s.lawful };
+
+    ghost truth = { unfold AllTrue in λ s. tt };
+
+    fn peek(&self, key: &[u8; 36]) -> Peek {
+        let Walk { ports, mask, .. } = self.walk(key);
+        Peek { ports, mask }
+    }
+
+    fn decide(&mut self, key: &[u8; 36]) -> Decision {
+        let Walk { ports, mask, .. } = self.pass(key, 1);
+        Decision {
+            ports,
+            mask,
+            depth: 1,
+        }
+    }
+
+    fn credit(&mut self, key: &[u8; 36], n: u64) {
+        let _ = self.pass(key, n);
+    }
+
+    fn add(&mut self, rule: &RuleRecord) -> Result<(), TablesFault> {
+        Four::add(self, rule)
+    }
+
+    fn remove(&mut self, name: RuleName) -> Result<(), TablesFault> {
+        Four::remove(self, name)
+    }
+
+    fn count(&mut self, name: RuleName) -> Result<u64, TablesFault> {
+        Four::count(self, name)
+    }
+
+    fn revalidate(&mut self, _n: u32) -> u32 {
+        // the tables have no suspect entries
+        0
+    }
+
+    fn evict(&mut self) -> u32 {
+        // nor any to drop
+        0
     }
 }

@@ -17,8 +17,8 @@ use classifier::Classifier;
 use std::alloc::{AllocError, Global};
 use std::marker::Model;
 
-// Four tables, each with a classifier. The facts are those of `Four`, behind a model: as facts of this type, over its bound,
-// they would keep tables out of callers' structs whose parameter the classifiers are made of.
+// Four tables, each with a classifier. What holds of them is a fact of `Four`, and shown by a model: with facts of its own over `C`
+// this type could be no field of a caller's struct that takes a `C` and holds tables of classifiers made of it.
 #[derive(Drop)]
 pub struct Tables<C: Classifier> {
     four: Four<C>,
