@@ -68,6 +68,13 @@ with_port set n p b next e =
     ∙ ap (λ t. cond t [] (codes ",") ++ decimal_text p) e))
     ∙ ap (ports_below set) one_more
 
+-- the text up to the first port, and up to a later one, with its own behind
+pub first_port : (set n p m : ℕ) → IsNext set n p → m ≡ 2 ^ p → set % m ≡ 0 → ports_below set n ++ decimal_text p ≡ ports_below set (p + 1)
+first_port set n p m next e h = with_port set n p true next (eq-eqb (set % 2 ^ p) 0 (subst (λ z. set % z ≡ 0) e h))
+
+pub later_port : (set n p m : ℕ) → IsNext set n p → m ≡ 2 ^ p → (set % m ≡ 0 → ⊥) → (ports_below set n ++ codes ",") ++ decimal_text p ≡ ports_below set (p + 1)
+later_port set n p m next e h = append_assoc (ports_below set n) (codes ",") (decimal_text p) ∙ with_port set n p false next (ne_eqb (set % 2 ^ p) 0 (subst (λ z. set % z ≡ 0 → ⊥) e h))
+
 -- a port without a lower one, and one behind a lower one
 pub alone : (set p m : ℕ) → m ≡ 2 ^ p → set % m ≡ 0 → decimal_text p ≡ cond (none_lower set p) [] (codes ",") ++ decimal_text p
 alone set p m e h = sym (ap (λ b. cond b [] (codes ",") ++ decimal_text p) (eq-eqb (set % 2 ^ p) 0 (subst (λ z. set % z ≡ 0) e h)))

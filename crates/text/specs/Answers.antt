@@ -37,7 +37,7 @@ abbrev pub Answer : Type 0
 Answer = Result Reply Refusal
 
 -- a reply
-unfoldable pub reply_text : Reply → List ℕ
+abbrev pub reply_text : Reply → List ℕ
 reply_text Done = codes "ok"
 reply_text (Count n) = codes "count=" ++ decimal_text n
 reply_text (Ports set) = codes "ports=" ++ ports_text set

@@ -2,6 +2,7 @@
 #![tactic(auto)]
 
 pub mod answer;
+mod display;
 pub mod key;
 pub mod page;
 pub mod place;

@@ -4,7 +4,6 @@ use Rattle.text.proofs.Appends.{then, as_text}
 use Rattle.text.proofs.answer.put_reply.Goals as goal
 
 pub returns-in-Done : goal.returns-in-Done
-unfolding reply_text
 returns-in-Done c =
     record {
       items = as_text (sym (ap reply_text c.in-Done.is)) c.put.ensures.items;
@@ -13,7 +12,6 @@ returns-in-Done c =
     }
 
 pub returns-in-Count : goal.returns-in-Count
-unfolding reply_text
 returns-in-Count c =
     record {
       items = as_text (sym (ap reply_text c.in-Count.is)) (then c.put-in-Count.ensures.items c.put_number.ensures.items);
@@ -22,7 +20,6 @@ returns-in-Count c =
     }
 
 pub returns-in-Ports : goal.returns-in-Ports
-unfolding reply_text
 returns-in-Ports c =
     record {
       items = as_text (sym (ap reply_text c.in-Ports.is)) (then c.put-in-Ports.ensures.items c.put_ports.ensures.items);
