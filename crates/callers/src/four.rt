@@ -1,0 +1,44 @@
+// What a caller learns of tables whose facts are their own: that their rules are their classifiers' holds of every value, so that no
+// call is needed for it, also where the tables lie in a switch.
+ghost use Rattle.std.specs.Prelude.{◌≡◌, ◌<◌, map, IfOk, None, Some, MatchResult};
+ghost use Rattle.std.specs.List.{AllByRecursion};
+ghost use Rattle.packet.specs.Frames.{refusal, key_of};
+ghost use Rattle.datapath.specs.Walk.{walk, ports_of, credit_along, due};
+ghost use Rattle.switch.specs.Faults.{refusal_of};
+ghost use Rattle.switch.specs.Totals.{after_frame};
+
+use arrayvec::ArrayVec;
+use classifier::Classifier;
+use datapath::{Crossed, Four, Mark, Tables, Walk};
+use switch::{Forwarded, Switch, SwitchFault};
+
+// Decides a frame by a switch over four classifiers: each rule crossed has one more.
+pub fn frame_of_four<C: Classifier>(
+    switch: &mut Switch<Four<C>>,
+    in_port: u16,
+    frame: &[u8],
+) -> Result<Forwarded, SwitchFault>
+    ensures value { MatchResult result (λ f. (refusal in_port frame.now ≡ None) × (f.ports ≡ ports_of (walk (map C.Classifier.rules switch.old.level.classifiers.items) (key_of in_port frame.now)))) (λ e. refusal in_port frame.now ≡ Some (refusal_of e)) }
+    ensures counted { MatchResult result (λ _. map C.Classifier.rules switch.new.level.classifiers.items ≡ due (map C.Classifier.rules switch.old.level.classifiers.items) (key_of in_port frame.now) 1) (λ _. map C.Classifier.rules switch.new.level.classifiers.items ≡ map C.Classifier.rules switch.old.level.classifiers.items) }
+    ensures depth { IfOk result (λ f. f.depth ≡ 1) }
+    ensures totals { MatchResult result (λ f. switch.new.totals ≡ after_frame switch.old.totals f.depth) (λ _. switch.new.totals ≡ switch.old.totals) }
+{
+    switch.frame(in_port, frame)
+}
+
+// n more for each of these marks.
+pub fn credit_marks<C: Classifier>(tables: &mut Tables<C>, marks: &ArrayVec<Mark, 4>, n: u64)
+    requires { AllByRecursion (λ m. m.table < 4) marks.now.items }
+    ensures { map C.Classifier.rules tables.new.classifiers ≡ credit_along (map C.Classifier.rules tables.old.classifiers) marks.now.items n }
+{
+    let mut crossed = Crossed::new();
+    for mark in marks.as_slice() {
+        crossed.push(*mark);
+    }
+    let walk = Walk {
+        crossed,
+        ports: 0,
+        mask: [0; 36],
+    };
+    tables.credit_along(&walk, n);
+}
