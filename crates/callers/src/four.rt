@@ -7,9 +7,10 @@ ghost use Rattle.datapath.specs.Walk.{walk, ports_of, credit_along, due};
 ghost use Rattle.switch.specs.Faults.{refusal_of};
 ghost use Rattle.switch.specs.Totals.{after_frame};
 
+use super::tables::Passed;
 use arrayvec::ArrayVec;
 use classifier::Classifier;
-use datapath::{Crossed, Four, Mark, Tables, Walk};
+use datapath::{Crossed, Four, Level, Mark, Tables, Walk};
 use switch::{Forwarded, Switch, SwitchFault};
 
 // Decides a frame by a switch over four classifiers: each rule crossed has one more.
@@ -24,6 +25,22 @@ pub fn frame_of_four<C: Classifier>(
     ensures totals { MatchResult result (λ f. switch.new.totals ≡ after_frame switch.old.totals f.depth) (λ _. switch.new.totals ≡ switch.old.totals) }
 {
     switch.frame(in_port, frame)
+}
+
+// Four classifiers made of others. A struct that holds a type with facts of its own says the bound again.
+#[derive(Drop)]
+pub struct HeldFour<C: Classifier>
+where
+    Passed<C>: Classifier<Kind = <C as Classifier>::Kind>,
+{
+    pub four: Four<Passed<C>>,
+}
+
+// Where a key goes.
+pub fn ports_of_held<C: Classifier>(held: &HeldFour<C>, key: &[u8; 36]) -> u64
+    ensures { result ≡ ports_of (walk (map (λ s. C.Classifier.rules s.one) held.now.four.classifiers.items) key.now) }
+{
+    held.four.peek(key).ports
 }
 
 // n more for each of these marks.

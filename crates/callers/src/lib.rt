@@ -10,7 +10,7 @@ pub mod tuples;
 
 #[cfg(test)]
 mod tests {
-    use super::four::{credit_marks, frame_of_four};
+    use super::four::{HeldFour, credit_marks, frame_of_four, ports_of_held};
     use super::tables::{Held, Lent, Perhaps};
     use super::texts::{place_shown, reply_shown, verb_shown};
     use arrayvec::ArrayVec;
@@ -121,6 +121,19 @@ mod tests {
         }
         assert!(rt; frame_of_four(&mut switch, 1, &[0; 13]).is_err());
         assert!(rt; switch.count(NAME) == Ok(1));
+        Ok(())
+    }
+
+    #[test]
+    fn four_held(rt: HostRuntime) -> Result<(), Fail> {
+        let mut held: HeldFour<Linear> = HeldFour {
+            four: Four::new(rt.alloc(), ())?,
+        };
+        assert_eq!(rt; ports_of_held(&held, &[0; 36]), 0);
+        if held.four.add(&rule()).is_err() {
+            return Err(Fail::new("the rule is refused"));
+        }
+        assert_eq!(rt; ports_of_held(&held, &[0; 36]), 4);
         Ok(())
     }
 

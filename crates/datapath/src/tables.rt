@@ -17,8 +17,8 @@ use classifier::Classifier;
 use std::alloc::{AllocError, Global};
 use std::marker::Model;
 
-// Four tables, each with a classifier. What holds of them is a fact of `Four`, and shown by a model: with facts of its own over `C`
-// this type could be no field of a caller's struct that takes a `C` and holds tables of classifiers made of it.
+// Four tables, each with a classifier. What holds of them is a fact of `Four`, and shown by a model: so a caller's struct that takes
+// a `C` may hold tables of classifiers made of it. To hold a type with facts of its own over `C`, it has to say the bound again.
 #[derive(Drop)]
 pub struct Tables<C: Classifier> {
     four: Four<C>,
