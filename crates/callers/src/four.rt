@@ -1,16 +1,14 @@
 // What a caller learns of tables whose facts are their own: that their rules are their classifiers' holds of every value, so that no
 // call is needed for it, also where the tables lie in a switch.
-ghost use Rattle.std.specs.Prelude.{◌≡◌, ◌<◌, map, IfOk, None, Some, MatchResult};
-ghost use Rattle.std.specs.List.{AllByRecursion};
+ghost use Rattle.std.specs.Prelude.{◌≡◌, map, IfOk, None, Some, MatchResult};
 ghost use Rattle.packet.specs.Frames.{refusal, key_of};
-ghost use Rattle.datapath.specs.Walk.{walk, ports_of, credit_along, due};
+ghost use Rattle.datapath.specs.Walk.{walk, ports_of, due};
 ghost use Rattle.switch.specs.Faults.{refusal_of};
 ghost use Rattle.switch.specs.Totals.{after_frame};
 
 use super::tables::Passed;
-use arrayvec::ArrayVec;
 use classifier::Classifier;
-use datapath::{Crossed, Four, Level, Mark, Tables, Walk};
+use datapath::{Four, Level};
 use switch::{Forwarded, Switch, SwitchFault};
 
 // Decides a frame by a switch over four classifiers: each rule crossed has one more.
@@ -41,21 +39,4 @@ pub fn ports_of_held<C: Classifier>(held: &HeldFour<C>, key: &[u8; 36]) -> u64
     ensures { result ≡ ports_of (walk (map (λ s. C.Classifier.rules s.one) held.now.four.classifiers.items) key.now) }
 {
     held.four.peek(key).ports
-}
-
-// n more for each of these marks.
-pub fn credit_marks<C: Classifier>(tables: &mut Tables<C>, marks: &ArrayVec<Mark, 4>, n: u64)
-    requires { AllByRecursion (λ m. m.table < 4) marks.now.items }
-    ensures { map C.Classifier.rules tables.new.classifiers ≡ credit_along (map C.Classifier.rules tables.old.classifiers) marks.now.items n }
-{
-    let mut crossed = Crossed::new();
-    for mark in marks.as_slice() {
-        crossed.push(*mark);
-    }
-    let walk = Walk {
-        crossed,
-        ports: 0,
-        mask: [0; 36],
-    };
-    tables.credit_along(&walk, n);
 }

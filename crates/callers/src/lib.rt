@@ -1,5 +1,5 @@
 // What stands in a caller's own crate: a classifier and an element made of others, structs that hold tables and tuples of these, and
-// calls of which the caller promises what it has learned from others.
+// functions that promise what a caller learns from calls of the other crates.
 #![tactic(auto)]
 
 pub mod calls;
@@ -10,7 +10,8 @@ pub mod tuples;
 
 #[cfg(test)]
 mod tests {
-    use super::four::{HeldFour, credit_marks, frame_of_four, ports_of_held};
+    use super::calls::credit_marks;
+    use super::four::{HeldFour, frame_of_four, ports_of_held};
     use super::tables::{Held, Lent, Perhaps};
     use super::texts::{place_shown, reply_shown, verb_shown};
     use arrayvec::ArrayVec;

@@ -1,5 +1,5 @@
 -- The ports of a set, from one to the next.
-use Rattle.std.proofs.Common.{◌≡◌, ℕ, zero, suc, ◌+◌, ◌-◌, ◌/◌, ◌%◌, ◌^◌, ◌<◌, ◌≤◌, cond, Bool, true, false, List, [], ◌++◌, codes, sym, ap, ◌∙◌, subst, append-nil, append_assoc, arith, eq-eqb, ne_eqb, inl, inr, ◌⊎◌}
+use Rattle.std.proofs.Common.{◌≡◌, ℕ, zero, suc, ◌+◌, ◌-◌, ◌/◌, ◌%◌, ◌^◌, ◌<◌, ◌≤◌, cond, Bool, List, [], ◌++◌, codes, sym, ap, refl, ◌∙◌, subst, append-nil, append_assoc, arith, eq-eqb, ne_eqb, inl, inr, ◌⊎◌}
 use Rattle.std.specs.Int.{trailing_zeros, w64}
 use native.Mathlib.Nat.{zero-div}
 use Rattle.std.proofs.lemmas.Bool.{cases_lt}
@@ -68,19 +68,19 @@ with_port set n p b next e =
     ∙ ap (λ t. cond t [] (codes ",") ++ decimal_text p) e))
     ∙ ap (ports_below set) one_more
 
--- the text up to the first port, and up to a later one, with its own behind
-pub first_port : (set n p m : ℕ) → IsNext set n p → m ≡ 2 ^ p → set % m ≡ 0 → ports_below set n ++ decimal_text p ≡ ports_below set (p + 1)
-first_port set n p m next e h = with_port set n p true next (eq-eqb (set % 2 ^ p) 0 (subst (λ z. set % z ≡ 0) e h))
-
-pub later_port : (set n p m : ℕ) → IsNext set n p → m ≡ 2 ^ p → (set % m ≡ 0 → ⊥) → (ports_below set n ++ codes ",") ++ decimal_text p ≡ ports_below set (p + 1)
-later_port set n p m next e h = append_assoc (ports_below set n) (codes ",") (decimal_text p) ∙ with_port set n p false next (ne_eqb (set % 2 ^ p) 0 (subst (λ z. set % z ≡ 0 → ⊥) e h))
-
 -- a port without a lower one, and one behind a lower one
 pub alone : (set p m : ℕ) → m ≡ 2 ^ p → set % m ≡ 0 → decimal_text p ≡ cond (none_lower set p) [] (codes ",") ++ decimal_text p
 alone set p m e h = sym (ap (λ b. cond b [] (codes ",") ++ decimal_text p) (eq-eqb (set % 2 ^ p) 0 (subst (λ z. set % z ≡ 0) e h)))
 
 pub behind : (set p m : ℕ) → m ≡ 2 ^ p → (set % m ≡ 0 → ⊥) → codes "," ++ decimal_text p ≡ cond (none_lower set p) [] (codes ",") ++ decimal_text p
 behind set p m e n = sym (ap (λ b. cond b [] (codes ",") ++ decimal_text p) (ne_eqb (set % 2 ^ p) 0 (subst (λ z. set % z ≡ 0 → ⊥) e n)))
+
+-- the text up to the first port, and up to a later one, with its own behind
+pub first_port : (set n p m : ℕ) → IsNext set n p → m ≡ 2 ^ p → set % m ≡ 0 → ports_below set n ++ decimal_text p ≡ ports_below set (p + 1)
+first_port set n p m next e h = ap (λ t. ports_below set n ++ t) (alone set p m e h) ∙ with_port set n p (none_lower set p) next refl
+
+pub later_port : (set n p m : ℕ) → IsNext set n p → m ≡ 2 ^ p → (set % m ≡ 0 → ⊥) → (ports_below set n ++ codes ",") ++ decimal_text p ≡ ports_below set (p + 1)
+later_port set n p m next e h = append_assoc (ports_below set n) (codes ",") (decimal_text p) ∙ ap (λ t. ports_below set n ++ t) (behind set p m e h) ∙ with_port set n p (none_lower set p) next refl
 
 -- where no port is left, the text is whole
 pub last_port : (set n : ℕ) → n ≤ 64 → (n ≡ 64) ⊎ (set / 2 ^ n ≡ 0) → (set ≡ 0 → ⊥) → ports_below set n ≡ ports_text set
